@@ -1,0 +1,28 @@
+-- Turn orders: which sets may be made into one.
+use mathlib.Core.Path.{_≡_}
+use Prim.Native.Nat.{ℕ, _≤_}
+use Rattle.std.specs.declared.result.Result.{Result}
+use Rattle.std.specs.declared.result.Result.the-variants.{Ok, Err}
+use Rattle.mesh.specs.declared.refusals.Refusal.{Refusal}
+use Rattle.mesh.specs.declared.refusals.Refusal.the-variants.{OutOfRange, OneSet}
+use Rattle.mesh.specs.declared.turns.TurnOrder.{TurnOrder}
+
+-- sets are numbered 0 and 1
+abbrev pub Sets : ℕ → ℕ → ℕ → ℕ → Type 0
+Sets n e s w = (n ≤ 1) × (e ≤ 1) × (s ≤ 1) × (w ≤ 1)
+
+-- all four directions are in one set
+abbrev pub Alike : ℕ → ℕ → ℕ → ℕ → Type 0
+Alike n e s w = (n ≡ e) × (e ≡ s) × (s ≡ w)
+
+-- an order with these four sets
+pub record SameOrder (o : TurnOrder) (n e s w : ℕ) : Type 0 where
+  pub north-is : o .north ≡ n
+  pub east-is : o .east ≡ e
+  pub south-is : o .south ≡ s
+  pub west-is : o .west ≡ w
+
+-- what becomes of four sets: first a set out of range is refused, then all four in one set
+abbrev pub Decided : ℕ → ℕ → ℕ → ℕ → Result TurnOrder Refusal → Type 0
+Decided n e s w (Ok o) = SameOrder o n e s w
+Decided n e s w (Err x) = (Sets n e s w → (x ≡ OneSet) × Alike n e s w) × ((Sets n e s w → ⊥) → x ≡ OutOfRange)
