@@ -8,8 +8,8 @@ use Rattle.mesh.specs.declared.refusals.Refusal.the-variants.{OutOfRange, OneS
 use Rattle.mesh.specs.declared.turns.TurnOrder.{TurnOrder}
 
 -- sets are numbered 0 and 1
-abbrev pub Sets : ℕ → ℕ → ℕ → ℕ → Type 0
-Sets n e s w = (n ≤ 1) × (e ≤ 1) × (s ≤ 1) × (w ≤ 1)
+abbrev pub InSets : ℕ → ℕ → ℕ → ℕ → Type 0
+InSets n e s w = (n ≤ 1) × (e ≤ 1) × (s ≤ 1) × (w ≤ 1)
 
 -- all four directions are in one set
 abbrev pub Alike : ℕ → ℕ → ℕ → ℕ → Type 0
@@ -25,4 +25,4 @@ pub record SameOrder (o : TurnOrder) (n e s w : ℕ) : Type 0 where
 -- what becomes of four sets: first a set out of range is refused, then all four in one set
 abbrev pub Decided : ℕ → ℕ → ℕ → ℕ → Result TurnOrder Refusal → Type 0
 Decided n e s w (Ok o) = SameOrder o n e s w
-Decided n e s w (Err x) = (Sets n e s w → (x ≡ OneSet) × Alike n e s w) × ((Sets n e s w → ⊥) → x ≡ OutOfRange)
+Decided n e s w (Err x) = (InSets n e s w → (x ≡ OneSet) × Alike n e s w) × ((InSets n e s w → ⊥) → x ≡ OutOfRange)
