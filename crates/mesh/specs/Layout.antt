@@ -28,6 +28,6 @@ pub record Inside (w h : ℕ) (p : Place) : Type 0 where
 abbrev pub cell : ℕ → ℕ → ℕ → Place → ℕ
 cell w h z p = (z * h + p .y) * w + p .x
 
--- the i-th place of a plane, row by row
-abbrev pub place-at : ℕ → ℕ → Place
-place-at w i = record { x = i % w; y = i / w }
+-- the place of the i-th router of the stack within its plane: the inverse of `cell`
+abbrev pub place-at : ℕ → ℕ → ℕ → Place
+place-at w h i = record { x = i % w; y = i / w % h }

@@ -38,4 +38,12 @@ impl Sizes {
     {
         (usize::from(layer) * usize::from(self.height) + usize::from(place.y)) * usize::from(self.width) + usize::from(place.x)
     }
+
+    // The place of the i-th router of the stack within its plane.
+    pub fn place_at(self, i: usize) -> Place
+        ensures { λ r. ⌜ r ≡ place-at (self .width) (self .height) i ⌝ }
+    {
+        let width = usize::from(self.width);
+        Place { x: (i % width) as u8, y: (i / width % usize::from(self.height)) as u8 }
+    }
 }

@@ -1,0 +1,100 @@
+-- The list of elevators: exactly the links, each once, in row order.
+use mathlib.Core.Path.{_≡_, refl, sym, ap, subst, _∙_}
+use mathlib.Core.Bool.{Bool, true, false, cond}
+use mathlib.Core.List.{List, [], _∷_, _++_, map}
+use mathlib.Core.Logic.{⊎-elim}
+use Prim.Native.Nat.{ℕ, zero, suc, _+_, _*_, _/_, _%_, _≤_, _<_}
+use native.Mathlib.Nat.{mod-eq-of-lt, zero-add, zero-mul}
+use native.Mathlib.Omega.{arith}
+use lib.Dec.{eqb}
+use lib.ListN.{length, getD}
+use Rattle.std.specs.Iters.{counting}
+use Rattle.std.specs.shelf.Lists.{All, Has, kept-by}
+use Rattle.std.proofs.shelf.Bits.{div-add-mod', div-below, div-mul-add, mod-below, mod-mul-add, mul-add-lt}
+use Rattle.std.proofs.shelf.Counted.{getD-map-counting, length-map-counting}
+use Rattle.std.proofs.shelf.Elements.{all-getD, all-has, all-has-itself, all-kept-by, has-append-right, kept-by-passes}
+use Rattle.std.proofs.shelf.Tests.{cond-both, cond-true, eq-eqb, eqb-true}
+use Rattle.mesh.specs.declared.grid.Place.{Place}
+use Rattle.mesh.specs.Layout.{Inside, cell, place-at}
+use Rattle.routing_laws.specs.Elevators.{Listed, elevators, linked, origin, places}
+
+-- what is kept was there and passes, and what was there and passes is kept
+pub has-kept : {X : Type 0} (t : X → Bool) (xs : List X) (x : X) → Has (kept-by t xs) x → Has xs x × (t x ≡ true)
+has-kept t xs x h = (
+  all-has (Has xs) (kept-by t xs) x (all-kept-by t (Has xs) xs (all-has-itself xs)) h,
+  all-has (λ y. t y ≡ true) (kept-by t xs) x (kept-by-passes t xs) h,
+)
+
+kept-at : {X : Type 0} (t : X → Bool) (xs : List X) (x : X) (k : ℕ) → k < length xs → ((d : X) → getD xs k d ≡ x) → t x ≡ true → Has (kept-by t xs) x
+kept-at t [] x k l is pass = absurd (omega arith)
+kept-at t (y ∷ ys) x zero l is pass = rw (cond-true (t y) (y ∷ kept-by t ys) (kept-by t ys) (ap t (is x) ∙ pass)) (0, omega arith, is)
+kept-at t (y ∷ ys) x (suc k) l is pass =
+    let rest = kept-at t ys x k (omega arith) is pass in
+    cond-both (t y) (y ∷ kept-by t ys) (kept-by t ys) (λ l. Has l x) (λ _. has-append-right (y ∷ []) (kept-by t ys) x rest) (λ _. rest)
+
+pub kept-has : {X : Type 0} (t : X → Bool) (xs : List X) (x : X) → Has xs x → t x ≡ true → Has (kept-by t xs) x
+kept-has t xs x h = kept-at t xs x (h .0) (h .1) (h .2)
+
+-- each before all that follow it, by a key
+abbrev Rises : {X : Type 0} → (X → ℕ) → List X → Type 0
+Rises key [] = Unit {0}
+Rises key (x ∷ xs) = All (λ y. key x < key y) xs × Rises key xs
+
+kept-rises : {X : Type 0} (key : X → ℕ) (t : X → Bool) (xs : List X) → Rises key xs → Rises key (kept-by t xs)
+kept-rises key t [] r = tt
+kept-rises key t (x ∷ xs) r =
+    let rest = kept-rises key t xs (r .1) in
+    cond-both (t x) (x ∷ kept-by t xs) (kept-by t xs) (Rises key) (λ _. (all-kept-by t (λ y. key x < key y) xs (r .0), rest)) (λ _. rest)
+
+rises-at : {X : Type 0} (key : X → ℕ) (d : X) (xs : List X) (i j : ℕ) → Rises key xs → i < j → j < length xs → key (getD xs i d) < key (getD xs j d)
+rises-at key d [] i j r l m = absurd (omega arith)
+rises-at key d (x ∷ xs) i zero r l m = absurd (omega arith)
+rises-at key d (x ∷ xs) zero (suc j) r l m = all-getD (λ y. key x < key y) xs j d (omega arith) (r .0)
+rises-at key d (x ∷ xs) (suc i) (suc j) r l m = rises-at key d xs i j (r .1) (omega arith) (omega arith)
+
+module _ (w h : ℕ) (some-columns : 0 < w) (some-rows : 0 < h) where
+  pub place-inside : (i : ℕ) → Inside w h (place-at w h i)
+  place-inside i = record { column = mod-below i w some-columns; row = mod-below (i / w) h some-rows }
+
+  pub cell-place : (i : ℕ) → i < w * h → cell w h 0 (place-at w h i) ≡ i
+  cell-place i l =
+      let row : i / w < h = div-below i w h some-columns (omega arith) in
+      let low : i / w % h ≡ i / w = mod-eq-of-lt row in
+      rw (low, zero-mul h, zero-add (i / w)) (div-add-mod' i w)
+
+  pub place-cell : (z : ℕ) (p : Place) → Inside w h p → place-at w h (cell w h z p) ≡ p
+  place-cell z p q =
+      let row : cell w h z p / w ≡ z * h + p .y = div-mul-add (z * h + p .y) w (p .x) (q .column) in
+      λ i. record { x = mod-mul-add (z * h + p .y) w (p .x) (q .column) i; y = (ap (λ n. n % h) row ∙ mod-mul-add z h (p .y) (q .row)) i }
+
+  pub cell-below : (p : Place) → Inside w h p → cell w h 0 p < w * h
+  cell-below p q = omega (arith, mul-add-lt (p .y) w (p .x) h (q .row) (q .column))
+
+  pub has-places : (p : Place) → Inside w h p → Has (places w h) p
+  has-places p q = (
+    cell w h 0 p,
+    rw (length-map-counting (place-at w h) 0 (w * h)) (cell-below p q),
+    λ d. getD-map-counting (place-at w h) 0 (w * h) (cell w h 0 p) (cell w h 0 p) d (cell-below p q) (omega arith) ∙ place-cell 0 p q,
+  )
+
+  pub all-inside : (a n : ℕ) → All (Inside w h) (map (place-at w h) (counting a n))
+  all-inside a zero = tt
+  all-inside a (suc n) = (place-inside a, all-inside (a + 1) n)
+
+  later : (a b n : ℕ) → a < b → b + n ≤ w * h → All (λ p. cell w h 0 (place-at w h a) < cell w h 0 p) (map (place-at w h) (counting b n))
+  later a b zero l m = tt
+  later a b (suc n) l m = (omega (arith, cell-place a (omega arith), cell-place b (omega arith)), later a (b + 1) n (omega arith) (omega arith))
+
+  places-rise : (a n : ℕ) → a + n ≤ w * h → Rises (cell w h 0) (map (place-at w h) (counting a n))
+  places-rise a zero m = tt
+  places-rise a (suc n) m = (later a (a + 1) n (omega arith) (omega arith), places-rise (a + 1) n (omega arith))
+
+  pub all-listed : (links : List ℕ) (g : ℕ) → Listed w h links g (elevators w h links g)
+  all-listed links g =
+      let kept = linked w h links g in
+      record {
+        inside = λ p e. all-has (Inside w h) (places w h) p (all-inside 0 (w * h)) (has-kept kept (places w h) p e .0);
+        sound = λ p e. eqb-true _ _ (has-kept kept (places w h) p e .1);
+        complete = λ p q e. kept-has kept (places w h) p (has-places p q) (eq-eqb _ _ e);
+        rising = λ i j l m. rises-at (cell w h 0) origin (elevators w h links g) i j (kept-rises (cell w h 0) kept (places w h) (places-rise 0 (w * h) (omega arith))) l m;
+      }

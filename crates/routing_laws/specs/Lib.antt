@@ -1,0 +1,3 @@
+pub mod Elevators
+pub mod Filling
+pub mod Nearest

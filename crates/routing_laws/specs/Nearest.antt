@@ -1,0 +1,30 @@
+-- The nearest elevators, and MD-safe's choice among them: the last one listed.
+use mathlib.Core.Path.{_≡_}
+use mathlib.Core.Bool.{cond}
+use mathlib.Core.List.{List}
+use Prim.Native.Nat.{ℕ, _≤_, _<_}
+use lib.Dec.{leb}
+use lib.ListN.{length, getD}
+use Rattle.std.specs.Iters.{folded}
+use Rattle.mesh.specs.declared.grid.Place.{Place}
+use Rattle.mesh.specs.Compass.{distance, toward}
+use Rattle.mesh.specs.Halves.{pack}
+use Rattle.routing_laws.specs.Elevators.{origin}
+
+-- elevator number b is nearest to p, and every later one is farther
+pub record LastNearest (es : List Place) (p : Place) (b : ℕ) : Type 0 where
+  pub listed : b < length es
+  pub nearest : (j : ℕ) → j < length es → distance p (getD es b origin) ≤ distance p (getD es j origin)
+  pub last : (j : ℕ) → b < j → j < length es → distance p (getD es b origin) < distance p (getD es j origin)
+
+-- the later of two elevators, unless it is farther
+abbrev pub nearer : Place → Place → Place → Place
+nearer p a e = cond (leb (distance p e) (distance p a)) e a
+
+-- the last nearest elevator, found along the list
+abbrev pub last-nearest : Place → List Place → Place
+last-nearest p es = folded (nearer p) (getD es 0 origin) es
+
+-- a half-byte that points at an elevator: exactly the directions in which it lies
+abbrev pub pointing : Place → Place → ℕ
+pointing p e = pack (toward p e)
