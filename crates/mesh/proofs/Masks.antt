@@ -2,7 +2,7 @@
 use mathlib.Core.Path.{_≡_, refl, sym, ap, _∙_}
 use mathlib.Core.Bool.{Bool, true, false, not, cond}
 use mathlib.Core.Logic.{⊎-elim}
-use Prim.Native.Nat.{ℕ, _+_, _-_, _*_, _/_, _%_, _^_, _<_}
+use Prim.Native.Nat.{ℕ, _+_, _-_, _*_, _/_, _%_, _^_, _≤_, _<_}
 use native.Mathlib.Nat.{zero-mul, one-mul}
 use native.Mathlib.Omega.{arith}
 use lib.Dec.{eqb}
@@ -86,3 +86,10 @@ half-written Down b v = omega arith
 pub half-kept : (w : Way) (b v : ℕ) → half (opposite w) (with-half w b v) ≡ half (opposite w) b
 half-kept Up b v = omega arith
 half-kept Down b v = omega arith
+
+worth-le : (b : Bool) (n : ℕ) → worth b n ≤ n
+worth-le true n = omega arith
+worth-le false n = omega arith
+
+pub pack-small : (s : Directions) → pack s < 16
+pack-small s = omega (arith, worth-le (s .north) 1, worth-le (s .east) 2, worth-le (s .south) 4, worth-le (s .west) 8)

@@ -6,8 +6,11 @@ use crate::compass::Directions;
 use crate::compass::Way;
 
 const NORTH: u8 = 1;
+
 const EAST: u8 = 2;
+
 const SOUTH: u8 = 4;
+
 const WEST: u8 = 8;
 
 fn bit(set: bool, mask: u8) -> u8
@@ -22,7 +25,10 @@ impl Directions {
         ensures bits { λ r. ⌜ r ≡ pack self ⌝ }
         ensures back { λ r. ⌜ unpack r ≡ self ⌝ }
     {
-        bit(self.north, NORTH) | bit(self.east, EAST) | bit(self.south, SOUTH) | bit(self.west, WEST)
+        bit(self.north, NORTH)
+            | bit(self.east, EAST)
+            | bit(self.south, SOUTH)
+            | bit(self.west, WEST)
     }
 
     // The directions of a half-byte; bits above the lowest four do not count.

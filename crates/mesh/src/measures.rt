@@ -15,7 +15,11 @@ impl Sizes {
         if width < 1 || width > 24 || height < 1 || height > 24 || planes < 1 || planes > 8 {
             return Err(Refusal::OutOfRange);
         }
-        Ok(Sizes { width, height, planes })
+        Ok(Sizes {
+            width,
+            height,
+            planes,
+        })
     }
 
     // The number of routers of a plane.
@@ -36,7 +40,9 @@ impl Sizes {
     pub fn index(self, layer: u8, place: Place) -> usize
         ensures { λ r. ⌜ r ≡ cell (self .width) (self .height) layer place ⌝ }
     {
-        (usize::from(layer) * usize::from(self.height) + usize::from(place.y)) * usize::from(self.width) + usize::from(place.x)
+        (usize::from(layer) * usize::from(self.height) + usize::from(place.y))
+            * usize::from(self.width)
+            + usize::from(place.x)
     }
 
     // The place of the i-th router of the stack within its plane.
@@ -44,6 +50,9 @@ impl Sizes {
         ensures { λ r. ⌜ r ≡ place-at (self .width) (self .height) i ⌝ }
     {
         let width = usize::from(self.width);
-        Place { x: (i % width) as u8, y: (i / width % usize::from(self.height)) as u8 }
+        Place {
+            x: (i % width) as u8,
+            y: (i / width % usize::from(self.height)) as u8,
+        }
     }
 }

@@ -19,6 +19,11 @@ impl TurnOrder {
         if north == east && east == south && south == west {
             return Err(Refusal::OneSet);
         }
-        Ok(TurnOrder { north, east, south, west })
+        Ok(TurnOrder {
+            north,
+            east,
+            south,
+            west,
+        })
     }
 }

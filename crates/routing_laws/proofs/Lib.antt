@@ -1,3 +1,4 @@
 pub mod Filling
 pub mod Listing
 pub mod Nearest
+pub mod Safe

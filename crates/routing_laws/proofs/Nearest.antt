@@ -21,8 +21,8 @@ nearest-unique {es} {p} {a} {b} m n =
     ⊎-elim
     (λ e. e)
     (⊎-elim
-      (λ (l : a < b). absurd (omega (arith, m .last b l (n .listed), n .nearest a (m .listed))))
-      (λ (l : b < a). absurd (omega (arith, n .last a l (m .listed), m .nearest b (n .listed)))))
+    (λ (l : a < b). absurd (omega (arith, m .last b l (n .listed), n .nearest a (m .listed))))
+    (λ (l : b < a). absurd (omega (arith, n .last a l (m .listed), m .nearest b (n .listed)))))
     (cases-order a b)
 
 -- elevator number b is the last nearest of the first n
@@ -63,11 +63,11 @@ module _ {es : List Place} {p : Place} where
       let on : (x : Place) → nearer p (getD es b origin) (getD es n origin) ≡ x → folded (nearer p) x (drop (n + 1) es) ≡ folded (nearer p) (getD es b origin) (drop n es) = λ x q. ap (λ y. folded (nearer p) y (drop (n + 1) es)) (sym q) ∙ sym one in
       ⊎-elim
       (λ (t : leb near best ≡ true).
-          let rest = found-from k (n + 1) n (omega arith) (sofar-takes h l (leb-true near best t)) in
-          (rest .0, rest .1, rest .2 ∙ on _ (cond-true (leb near best) (getD es n origin) (getD es b origin) t)))
+      let rest = found-from k (n + 1) n (omega arith) (sofar-takes h l (leb-true near best t)) in
+      (rest .0, rest .1, rest .2 ∙ on _ (cond-true (leb near best) (getD es n origin) (getD es b origin) t)))
       (λ (t : leb near best ≡ false).
-          let rest = found-from k (n + 1) b (omega arith) (sofar-keeps h (leb-false near best t)) in
-          (rest .0, rest .1, rest .2 ∙ on _ (cond-false (leb near best) (getD es n origin) (getD es b origin) t)))
+      let rest = found-from k (n + 1) b (omega arith) (sofar-keeps h (leb-false near best t)) in
+      (rest .0, rest .1, rest .2 ∙ on _ (cond-false (leb near best) (getD es n origin) (getD es b origin) t)))
       (cases-bool (leb near best))
 
   pub last-nearest-found : 0 < length es → (a : ℕ) × LastNearest es p a × (getD es a origin ≡ last-nearest p es)

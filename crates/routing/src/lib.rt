@@ -1,0 +1,13 @@
+// The interfaces by which a buyer brings tie rules and fillers, and those that are supplied.
+mod choosing;
+mod filling;
+mod safe;
+
+pub use choosing::Chooser;
+pub use choosing::First;
+pub use choosing::FirstChooser;
+pub use choosing::Last;
+pub use choosing::LastChooser;
+pub use filling::Filler;
+pub use safe::MdSafe;
+pub use safe::MdSafeFiller;

@@ -1,0 +1,74 @@
+// MD-safe: every router points at the last listed of its nearest elevators, and nobody is asked.
+ghost use mathlib.Core.Path.{_≡_};
+ghost use Prim.Native.Nat.{_*_, _<_};
+ghost use lib.ListN.{length};
+ghost use Rattle.routing_laws.specs.Filling.{put-halves};
+ghost use Rattle.routing_laws.specs.Nearest.{LastNearest, PointsSafely, safe-half};
+use crate::choosing::Chooser;
+use crate::filling::Filler;
+use mesh::Directions;
+use mesh::Place;
+use mesh::Sizes;
+use mesh::TurnOrder;
+use mesh::Way;
+
+// It serves packets under any turn order, and keeps the one it was planned for.
+#[derive(Clone, Copy)]
+pub struct MdSafe {
+    pub order: TurnOrder,
+}
+
+// The position of the last listed elevator of smallest distance.
+fn last_nearest(place: Place, elevators: &[Place]) -> usize
+    requires { ⌜ 0 < length (now elevators) ⌝ }
+    ensures { λ r. ⌜ LastNearest (now (elevators .entry)) place r ⌝ }
+{
+    let mut best = 0;
+    let mut least = place.distance(elevators[0]);
+    for (i, elevator) in elevators.iter().enumerate() {
+        let distance = place.distance(*elevator);
+        if distance <= least {
+            best = i;
+            least = distance;
+        }
+    }
+    best
+}
+
+// One half of a plane: each router points at its last nearest elevator.
+fn point(sizes: Sizes, way: Way, elevators: &[Place], bytes: &mut [u8])
+    requires some { ⌜ 0 < length (now elevators) ⌝ }
+    requires whole { ⌜ length (now bytes) ≡ sizes .width * sizes .height ⌝ }
+    ensures writes { λ _. ⌜ now (bytes .exit) ≡ put-halves way (now (bytes .entry)) (safe-half (sizes .width) (sizes .height) (now (elevators .entry))) ⌝ }
+    ensures points { λ _. ⌜ PointsSafely (sizes .width) (sizes .height) (now (elevators .entry)) way (now (bytes .exit)) ⌝ }
+{
+    for (i, byte) in bytes.iter_mut().enumerate() {
+        let place = sizes.place_at(i);
+        let target = elevators[last_nearest(place, elevators)];
+        *byte = way.with_half(*byte, Directions::toward(place, target).pack());
+    }
+}
+
+pub impl<C: Chooser> Filler<C> for MdSafe as MdSafeFiller {
+    ghost half = { λ _ t _. safe-half (t .width) (t .height) (t .elevators) };
+
+    ghost next = { λ _ _ c. c };
+
+    fn fill(
+        &self,
+        sizes: Sizes,
+        plane: u8,
+        way: Way,
+        elevators: &[Place],
+        chooser: &mut C,
+        bytes: &mut [u8],
+    )
+        requires some { ⌜ 0 < length (now elevators) ⌝ }
+        requires whole { ⌜ length (now bytes) ≡ sizes .width * sizes .height ⌝ }
+        ensures writes { λ _. ⌜ now (bytes .exit) ≡ put-halves way (now (bytes .entry)) (safe-half (sizes .width) (sizes .height) (now (elevators .entry))) ⌝ }
+        ensures goes { λ _. ⌜ now (chooser .exit) ≡ now (chooser .entry) ⌝ }
+        ensures points { λ _. ⌜ PointsSafely (sizes .width) (sizes .height) (now (elevators .entry)) way (now (bytes .exit)) ⌝ }
+    {
+        point(sizes, way, elevators, bytes);
+    }
+}
