@@ -1,3 +1,4 @@
 pub mod Elevators
 pub mod Filling
 pub mod Nearest
+pub mod Plan
