@@ -6,20 +6,13 @@ use Prim.Native.Nat.{ℕ, _+_, _-_, _*_, _≤_, _<_}
 use native.Mathlib.Nat.{mul-le-mul-right}
 use native.Mathlib.Omega.{arith}
 use lib.ListN.{length, getD, take, drop, length-append, length-drop, length-take}
-use Rattle.std.proofs.shelf.Lists.{getD-append-left, getD-append-right, getD-drop, getD-take, length-take-le}
+use borrow.Rule.Slice.PartMut.{putMid}
+use Rattle.std.proofs.shelf.Lists.{drop-drop, getD-append-left, getD-append-right, getD-drop, getD-take, length-take-le}
 use Rattle.std.proofs.shelf.Tests.{cases-order}
 use Rattle.mesh.specs.declared.compass.Way.{Way}
 use Rattle.mesh.specs.Halves.{with-half}
-use Rattle.routing_laws.specs.Filling.{put-halves}
+use Rattle.routing_laws.specs.Filling.{plane, put-halves, put-plane}
 use Rattle.routing_laws.proofs.Filling.{length-put-halves, put-halves-at}
-
--- plane z of planes of n bytes each
-abbrev pub plane : ℕ → ℕ → List ℕ → List ℕ
-plane n z bytes = take n (drop (z * n) bytes)
-
--- one half of plane z replaced
-abbrev pub put-plane : ℕ → ℕ → Way → List ℕ → List ℕ → List ℕ
-put-plane n z way bytes halves = take (z * n) bytes ++ (put-halves way (plane n z bytes) halves ++ drop (z * n + n) bytes)
 
 -- a plane before another ends where that one begins, at the latest
 pub plane-order : (n y z : ℕ) → y < z → y * n + n ≤ z * n
@@ -66,3 +59,10 @@ module _ (n z : ℕ) (way : Way) (bytes halves : List ℕ) (fits : z * n + n ≤
 
   pub put-plane-there : (y i : ℕ) → i < n → (y ≡ z → ⊥) → getD (put-plane n z way bytes halves) (y * n + i) 0 ≡ getD bytes (y * n + i) 0
   put-plane-there y i l ne = ⊎-elim (λ e. absurd (ne e)) (⊎-elim (before-it y i l) (after-it y i l)) (cases-order y z)
+
+-- what a write to the part of plane z leaves
+pub put-plane-part : (n z : ℕ) (way : Way) (bytes halves part : List ℕ) (a e : ℕ) → a ≡ z * n → e ≡ a + n → part ≡ put-halves way (take (e - a) (drop a bytes)) halves
+    → putMid a (e - a) bytes part ≡ put-plane n z way bytes halves
+put-plane-part n z way bytes halves part a e start end is =
+    let size : e - a ≡ n = omega arith in
+    rw (is, size, start) (ap (λ back. take (z * n) bytes ++ (put-halves way (plane n z bytes) halves ++ back)) (drop-drop n (z * n) bytes))

@@ -16,9 +16,9 @@ use Rattle.std.proofs.shelf.Tests.{cases-eq, cond-false, cond-true, lt-ltb, le-
 use Rattle.std.proofs.shelf.Ways.{tells}
 use Rattle.mesh.specs.declared.compass.Way.the-variants.{Up, Down}
 use Rattle.mesh.specs.Halves.{with-half}
-use Rattle.routing_laws.specs.Filling.{Task}
+use Rattle.routing_laws.specs.Filling.{Task, put-plane}
 use Rattle.routing_laws.specs.Plan.{Job, area, begun, between, down-task, gaps, location, planned, routers, up-task}
-use Rattle.routing_laws.proofs.Planes.{length-put-plane, plane-order, put-plane, put-plane-here, put-plane-there}
+use Rattle.routing_laws.proofs.Planes.{length-put-plane, plane-order, put-plane-here, put-plane-there}
 
 -- one more gap, of which the other planes take no notice
 later-gap : (z g : ℕ) → (z ≡ g → ⊥) → ltb z g ≡ ltb z (g + 1)

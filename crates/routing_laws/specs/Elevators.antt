@@ -32,3 +32,9 @@ pub record Listed (w h : ℕ) (links : List ℕ) (g : ℕ) (es : List Place) : T
   pub sound : (p : Place) → Has es p → getD links (cell w h g p) 0 ≡ 1
   pub complete : (p : Place) → Inside w h p → getD links (cell w h g p) 0 ≡ 1 → Has es p
   pub rising : (i j : ℕ) → i < j → j < length es → cell w h 0 (getD es i origin) < cell w h 0 (getD es j origin)
+
+-- a gap with a link
+pub record Joined (w h : ℕ) (links : List ℕ) (g : ℕ) : Type 0 where
+  pub at : Place
+  pub inside : Inside w h at
+  pub link : getD links (cell w h g at) 0 ≡ 1

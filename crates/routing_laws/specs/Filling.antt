@@ -1,6 +1,7 @@
 -- What a filler is told, what a chooser is asked, and how a half of a plane is filled.
-use mathlib.Core.List.{List, [], _∷_}
-use Prim.Native.Nat.{ℕ}
+use mathlib.Core.List.{List, [], _∷_, _++_}
+use Prim.Native.Nat.{ℕ, _+_, _*_}
+use lib.ListN.{drop, take}
 use Rattle.mesh.specs.declared.compass.Way.{Way}
 use Rattle.mesh.specs.declared.grid.Place.{Place}
 use Rattle.mesh.specs.declared.stack.Sizes.{Sizes}
@@ -42,3 +43,11 @@ abbrev pub put-halves : Way → List ℕ → List ℕ → List ℕ
 put-halves way [] halves = []
 put-halves way (b ∷ bytes) [] = b ∷ bytes
 put-halves way (b ∷ bytes) (v ∷ halves) = with-half way b v ∷ put-halves way bytes halves
+
+-- plane z, where planes have n bytes each
+abbrev pub plane : ℕ → ℕ → List ℕ → List ℕ
+plane n z bytes = take n (drop (z * n) bytes)
+
+-- one half of plane z replaced among the bytes of all planes
+abbrev pub put-plane : ℕ → ℕ → Way → List ℕ → List ℕ → List ℕ
+put-plane n z way bytes halves = take (z * n) bytes ++ (put-halves way (plane n z bytes) halves ++ drop (z * n + n) bytes)

@@ -14,9 +14,8 @@ use Rattle.mesh.specs.declared.grid.Place.{Place}
 use Rattle.mesh.specs.declared.refusals.Refusal.{Refusal}
 use Rattle.mesh.specs.declared.refusals.Refusal.the-variants.{GapUnlinked, ShortBuffer}
 use Rattle.mesh.specs.declared.stack.Sizes.{Sizes}
-use Rattle.mesh.specs.Layout.{Inside, cell}
-use Rattle.routing_laws.specs.Elevators.{elevators}
-use Rattle.routing_laws.specs.Filling.{Task, task}
+use Rattle.routing_laws.specs.Elevators.{Joined, elevators}
+use Rattle.routing_laws.specs.Filling.{Task, put-plane, task}
 
 -- a stack to plan, and the filler's meaning: the half it writes, and the chooser's next state
 pub record Job (C : Type 0) : Type 0 where
@@ -24,6 +23,9 @@ pub record Job (C : Type 0) : Type 0 where
   pub links : List ℕ
   pub half : Task → C → List ℕ
   pub next : Task → C → C
+
+abbrev pub job : {C : Type 0} → Sizes → List ℕ → (Task → C → List ℕ) → (Task → C → C) → Job C
+job s links half next = record { sizes = s; links = links; half = half; next = next }
 
 module _ {C : Type 0} (j : Job C) where
   -- the number of routers of a plane, of the stack's routers, and of its gaps
@@ -39,11 +41,9 @@ module _ {C : Type 0} (j : Job C) where
   abbrev pub elevators-of : ℕ → List Place
   elevators-of g = elevators (j .sizes .width) (j .sizes .height) (j .links) g
 
-  -- a place of a gap has a link
-  pub record Joined (g : ℕ) : Type 0 where
-    pub at : Place
-    pub inside : Inside (j .sizes .width) (j .sizes .height) at
-    pub link : getD (j .links) (cell (j .sizes .width) (j .sizes .height) g at) 0 ≡ 1
+  -- a gap with a link
+  abbrev pub Linked : ℕ → Type 0
+  Linked g = Joined (j .sizes .width) (j .sizes .height) (j .links) g
 
   -- the two halves of a gap: Up of the plane below it, Down of the plane above it
   abbrev pub up-task : ℕ → Task
@@ -59,6 +59,10 @@ module _ {C : Type 0} (j : Job C) where
 
   abbrev pub between : C → ℕ → C
   between c g = j .next (up-task g) (begun c g)
+
+  -- the bytes after gap g is planned, from state c
+  abbrev pub after-gap : C → ℕ → List ℕ → List ℕ
+  after-gap c g bytes = put-plane area (g + 1) Down (put-plane area g Up bytes (j .half (up-task g) c)) (j .half (down-task g) (j .next (up-task g) c))
 
   -- with n gaps planned: the half for Up of router i of plane z, which gap z gives, and the half for Down, which
   -- gap z - 1 gives; 0 where there is no such gap
@@ -85,6 +89,6 @@ module _ {C : Type 0} (j : Job C) where
   -- gap without a link; a refusal leaves both as they were
   abbrev pub Planned : List ℕ → C → List ℕ → C → Result (Unit {0}) Refusal → Type 0
   Planned bytes c bytes′ c′ (Ok _) =
-      (Short bytes → ⊥) × ((g : ℕ) → g < gaps → Joined g) × (bytes′ ≡ planned c ++ drop routers bytes) × (c′ ≡ begun c gaps)
+      (Short bytes → ⊥) × ((g : ℕ) → g < gaps → Linked g) × (bytes′ ≡ planned c ++ drop routers bytes) × (c′ ≡ begun c gaps)
   Planned bytes c bytes′ c′ (Err x) =
-      ((Short bytes × (x ≡ ShortBuffer)) ⊎ ((Short bytes → ⊥) × ((g : ℕ) × (g < gaps) × (Joined g → ⊥)) × (x ≡ GapUnlinked))) × (bytes′ ≡ bytes) × (c′ ≡ c)
+      ((Short bytes × (x ≡ ShortBuffer)) ⊎ ((Short bytes → ⊥) × ((g : ℕ) × (g < gaps) × (Linked g → ⊥)) × (x ≡ GapUnlinked))) × (bytes′ ≡ bytes) × (c′ ≡ c)
