@@ -46,7 +46,7 @@ module _ {bytes after marks : List ℕ} {d : Description} (r : Reading bytes d (
     pub complete : after ≡ [] → Described bytes d marks
     complete e =
         record {
-            links = r .links;
-            formed = record { spelt = split ∙ (ap (λ t. text (ended (extent-of (d .sizes)) (sets-of (d .order)) (r .links)) ++ t) e ∙ append-nil _); sound = r .sound; gaps = every-gap };
-            marked = r .marked
+          links = r .links;
+          formed = record { spelt = split ∙ (ap (λ t. text (ended (extent-of (d .sizes)) (sets-of (d .order)) (r .links)) ++ t) e ∙ append-nil _); sound = r .sound; gaps = every-gap };
+          marked = r .marked;
         }

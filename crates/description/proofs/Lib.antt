@@ -1,4 +1,3 @@
-pub mod Answering
 pub mod Ends
 pub mod Exits
 pub mod Marks

@@ -32,11 +32,11 @@ lies e (y ∷ ys) i =
     ⊎-elim
     (λ (p : spot e y ≡ i). inl (y, (0, omega arith, λ d. refl), p))
     (λ (n : spot e y ≡ i → ⊥).
-        ⊎-elim
-        (λ (w : (l : Link) × Has ys l × (spot e l ≡ i)). inl (w .0, has-append-right (y ∷ []) ys (w .0) (w .1), w .2))
-        (λ (m : (l : Link) → Has ys l → spot e l ≡ i → ⊥).
-            inr (λ l h p. ⊎-elim (λ (q : y ≡ l). n (ap (spot e) q ∙ p)) (λ (q : Has ys l). m l q p) (has-cons-cases y l ys h)))
-        (lies e ys i))
+    ⊎-elim
+    (λ (w : (l : Link) × Has ys l × (spot e l ≡ i)). inl (w .0, has-append-right (y ∷ []) ys (w .0) (w .1), w .2))
+    (λ (m : (l : Link) → Has ys l → spot e l ≡ i → ⊥).
+    inr (λ l h p. ⊎-elim (λ (q : y ≡ l). n (ap (spot e) q ∙ p)) (λ (q : Has ys l). m l q p) (has-cons-cases y l ys h)))
+    (lies e ys i))
     (cases-eq (spot e y) i)
 
 module _ {e : Extent} {ls : List Link} {marks : List ℕ} (m : Marked e ls marks) where
@@ -71,25 +71,26 @@ module _ {e : Extent} {ls : List Link} {marks : List ℕ} (m : Marked e ls marks
       pub linked-shown : Linked ls g → Shown area marks g
       linked-shown (l, h, p) =
           let b = inner-below e l (inside l h) in
-          let q : spot e l ≡ g * area + inner e l = spot-inner e l ∙ ap (λ n. n * area + inner e l) p in
-          (inner e l,
-              omega (arith, length-between marks (g * area) ((g + 1) * area) fits),
-              λ d.
-                  getD-between marks (g * area) ((g + 1) * area) (inner e l) d (omega arith)
-                  ∙ (getD-default marks (g * area + inner e l) d 0 (omega arith) ∙ (ap (λ i. getD marks i 0) (sym q) ∙ m .linked l h)))
+          let q : spot e l ≡ g * area + inner e l = spot-inner e l ∙ ap (λ n. n * area + inner e l) p in (
+            inner e l,
+            omega (arith, length-between marks (g * area) ((g + 1) * area) fits),
+            λ d.
+                getD-between marks (g * area) ((g + 1) * area) (inner e l) d (omega arith)
+                ∙ (getD-default marks (g * area + inner e l) d 0 (omega arith) ∙ (ap (λ i. getD marks i 0) (sym q) ∙ m .linked l h)),
+          )
 
   -- one mark more
   pub marked-more : (l : Link) → spot e l < length marks → Marked e (ls ++ l ∷ []) (set marks (spot e l) 1)
   marked-more l h =
       record {
-          linked = λ k hk.
-              ⊎-elim
-              (λ (o : Has ls k). or-here (spot e k) (λ _. m .linked k o))
-              (λ (q : l ≡ k). or-here (spot e k) (λ n. elim (n (sym (ap (spot e) q))) [ ]))
-              (has-push-cases ls l k hk);
-          bare = λ i b n.
-              let other : i ≡ spot e l → ⊥ = λ q. n l (has-push ls l) (sym q) in
-              getD-set-other marks (spot e l) i 1 0 other ∙ m .bare i (rw (length-set marks (spot e l) 1) at b) (λ k hk. n k (has-append-left ls (l ∷ []) k hk))
+        linked = λ k hk.
+            ⊎-elim
+            (λ (o : Has ls k). or-here (spot e k) (λ _. m .linked k o))
+            (λ (q : l ≡ k). or-here (spot e k) (λ n. elim (n (sym (ap (spot e) q))) [ ]))
+            (has-push-cases ls l k hk);
+        bare = λ i b n.
+            let other : i ≡ spot e l → ⊥ = λ q. n l (has-push ls l) (sym q) in
+            getD-set-other marks (spot e l) i 1 0 other ∙ m .bare i (rw (length-set marks (spot e l) 1) at b) (λ k hk. n k (has-append-left ls (l ∷ []) k hk));
       }
     where
       or-here : (i : ℕ) → ((i ≡ spot e l → ⊥) → getD marks i 0 ≡ 1) → getD (set marks (spot e l) 1) i 0 ≡ 1
@@ -116,22 +117,22 @@ once-more : (ls : List Link) (l : Link) → Once ls → (Has ls l → ⊥) → O
 once-more ls l o n before after k e h =
     ⊎-elim
     (λ (p : after ≡ []).
-        let q = same-from-push ls before l k (e ∙ ap (λ t. before ++ k ∷ t) p) in
-        n (subst (Has ls) (sym (q .1)) (subst (λ b. Has b k) (sym (q .0)) h)))
+    let q = same-from-push ls before l k (e ∙ ap (λ t. before ++ k ∷ t) p) in
+    n (subst (Has ls) (sym (q .1)) (subst (λ b. Has b k) (sym (q .0)) h)))
     (λ (w : (ys : List Link) × (y : Link) × (after ≡ ys ++ y ∷ [])).
-        let q = same-from-push ls (before ++ k ∷ w .0) l (w .1) (e ∙ (ap (λ t. before ++ k ∷ t) (w .2) ∙ sym (append-assoc before (k ∷ w .0) (w .1 ∷ [])))) in
-        o before (w .0) k (q .0) h)
+    let q = same-from-push ls (before ++ k ∷ w .0) l (w .1) (e ∙ (ap (λ t. before ++ k ∷ t) (w .2) ∙ sym (append-assoc before (k ∷ w .0) (w .1 ∷ [])))) in
+    o before (w .0) k (q .0) h)
     (last-of after)
 
 sound-more : {e : Extent} {s : SetNumbers} (ls : List Link) (l : Link) → Sound e s ls → Within e l → (Has ls l → ⊥) → Sound e s (ls ++ l ∷ [])
 sound-more {e} ls l k w n =
     record {
-        sizes = k .sizes;
-        sets = k .sets;
-        mixed = k .mixed;
-        inside = λ o h.
-            ⊎-elim (λ (q : Has ls o). k .inside o q) (λ (q : l ≡ o). subst (Within e) q w) (has-push-cases ls l o h);
-        once = once-more ls l (k .once) n
+      sizes = k .sizes;
+      sets = k .sets;
+      mixed = k .mixed;
+      inside = λ o h.
+          ⊎-elim (λ (q : Has ls o). k .inside o q) (λ (q : l ≡ o). subst (Within e) q w) (has-push-cases ls l o h);
+      once = once-more ls l (k .once) n;
     }
 
 split-more : (front : List ℕ) (ls : List Link) (l : Link) {bytes rest after : List ℕ} → bytes ≡ (front ++ spelled-links ls) ++ rest → rest ≡ spelled (Pillar l) ++ after → bytes ≡ (front ++ spelled-links (ls ++ l ∷ [])) ++ after
@@ -143,33 +144,33 @@ split-more front ls l {after = after} e p =
 pub another : {bytes rest marks : List ℕ} {d : Description} → Reading bytes d rest marks → 4032 ≤ length marks → (l : Link) (after : List ℕ) → rest ≡ spelled (Pillar l) ++ after → Within (extent-of (d .sizes)) l → (getD marks (spot (extent-of (d .sizes)) l) 0 ≡ 1 → ⊥) → Reading bytes d after (set marks (spot (extent-of (d .sizes)) l) 1)
 another {d = d} r long l after p w n =
     record {
-        links = r .links ++ l ∷ [];
-        split = split-more (spelled (Stack (extent-of (d .sizes))) ++ spelled (Order (sets-of (d .order)))) (r .links) l (r .split) p;
-        sound = sound-more (r .links) l (r .sound) w (λ h. n (r .marked .linked l h));
-        marked = marked-more (r .marked) l (omega (arith, spot-below (extent-of (d .sizes)) l (r .sound .sizes) w))
+      links = r .links ++ l ∷ [];
+      split = split-more (spelled (Stack (extent-of (d .sizes))) ++ spelled (Order (sets-of (d .order)))) (r .links) l (r .split) p;
+      sound = sound-more (r .links) l (r .sound) w (λ h. n (r .marked .linked l h));
+      marked = marked-more (r .marked) l (omega (arith, spot-below (extent-of (d .sizes)) l (r .sound .sizes) w));
     }
 
 -- what holds of every value of the two types
 pub sizes-range : (s : Sizes) → InRange (Stack (extent-of s))
 sizes-range s =
     record {
-        some-columns = s .«some_columns»;
-        few-columns = s .«few_columns»;
-        some-rows = s .«some_rows»;
-        few-rows = s .«few_rows»;
-        some-planes = s .«some_planes»;
-        few-planes = s .«few_planes»
+      some-columns = s .«some_columns»;
+      few-columns = s .«few_columns»;
+      some-rows = s .«some_rows»;
+      few-rows = s .«few_rows»;
+      some-planes = s .«some_planes»;
+      few-planes = s .«few_planes»;
     }
 
 -- nothing but sizes and order is read
 pub sound-none : (s : Sizes) (o : TurnOrder) → Sound (extent-of s) (sets-of o) []
 sound-none s o =
     record {
-        sizes = sizes-range s;
-        sets = (o .«north_most», o .«east_most», o .«south_most», o .«west_most»);
-        mixed = λ (a, b, c). o .«two_sets» a b c;
-        inside = λ l (k, h, _). omega arith;
-        once = λ before after l e (k, h, _). omega (arith, simp length-append at (ap length e))
+      sizes = sizes-range s;
+      sets = (o .«north_most», o .«east_most», o .«south_most», o .«west_most»);
+      mixed = λ (a, b, c). o .«two_sets» a b c;
+      inside = λ l (k, h, _). omega arith;
+      once = λ before after l e (k, h, _). omega (arith, simp length-append at (ap length e));
     }
 
 -- the index of a link that has passed the tests

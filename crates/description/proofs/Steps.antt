@@ -25,14 +25,16 @@ use Rattle.description.proofs.Stops.{refused}
 
 -- nothing but sizes and order is read
 pub begun : {bytes rest after marks : List ℕ} {e : Extent} {s : SetNumbers} (z : Sizes) (o : TurnOrder) → bytes ≡ spelled (Stack e) ++ rest → rest ≡ spelled (Order s) ++ after → SameSizes z (e .width) (e .height) (e .planes) → sets-of o ≡ s → marks ≡ replicate (length marks) 0 → Reading bytes record { sizes = z; order = o } after marks
-begun {rest = rest} {after} {marks} {e} {s} z o p q same eq none =
+begun {marks = marks} z o p q same eq none =
+    let north = ap (λ (t : SetNumbers). t .north) eq in
+    let east = ap (λ (t : SetNumbers). t .east) eq in
+    let south = ap (λ (t : SetNumbers). t .south) eq in
+    let west = ap (λ (t : SetNumbers). t .west) eq in
     record {
-        links = [];
-        split =
-            p ∙ (ap (λ t. spelled (Stack e) ++ t) q
-            ∙ (λ i. 83 ∷ sym (same .columns) i ∷ sym (same .rows) i ∷ sym (same .planes) i ∷ spelled (Order (sym eq i)) ++ after));
-        sound = sound-none z o;
-        marked = rw none (marked-none (extent-of z) (length marks))
+      links = [];
+      split = cc;
+      sound = sound-none z o;
+      marked = rw none (marked-none (extent-of z) (length marks));
     }
 
 -- a link that is not marked
@@ -40,7 +42,7 @@ pub unmarked : {bytes rest marks : List ℕ} {d : Description} (x : StackFault) 
 unmarked {bytes} {marks = marks} {d} x place r long l after p i at =
     ⊎-elim
     (λ (w : (x ≡ faults.Stack LinkOutside place) × (Within (extent-of (d .sizes)) l → ⊥)).
-        subst (Fails bytes) (sym (w .0)) (refused (r .split) (r .sound) place at after-o (Pillar l) after p (first-outside i (w .1)) refl))
+    subst (Fails bytes) (sym (w .0)) (refused (r .split) (r .sound) place at after-o (Pillar l) after p (first-outside i (w .1)) refl))
     (λ (w : (x ≡ faults.Stack LinkTwice place) × Within (extent-of (d .sizes)) l × (getD marks (spot (extent-of (d .sizes)) l) 0 ≡ 1)).
-        let again = named (r .marked) (r .sound .inside) l (w .1) (omega (arith, spot-below (extent-of (d .sizes)) l (r .sound .sizes) (w .1))) (w .2) in
-        subst (Fails bytes) (sym (w .0)) (refused (r .split) (r .sound) place at after-o (Pillar l) after p (first-twice i (w .1) again) refl))
+    let again = named (r .marked) (r .sound .inside) l (w .1) (omega (arith, spot-below (extent-of (d .sizes)) l (r .sound .sizes) (w .1))) (w .2) in
+    subst (Fails bytes) (sym (w .0)) (refused (r .split) (r .sound) place at after-o (Pillar l) after p (first-twice i (w .1) again) refl))

@@ -23,8 +23,8 @@ module _ {bytes rest : List ℕ} {f : Front} (split : bytes ≡ text f ++ rest) 
   pub stops : (x : StackFault) → place-of x ≡ place → layer-of x ≡ layer-for (refusal-of x) → Fault f rest (refusal-of x) → Fails bytes x
   stops x at y k =
       record {
-          faulty = record { front = f; rest = rest; split = split; faultless = ok; place = omega (arith, simp length-append at (ap length split)); fault = k };
-          layered = y
+        faulty = record { front = f; rest = rest; split = split; faultless = ok; place = omega (arith, simp length-append at (ap length split)); fault = k };
+        layered = y;
       }
 
   pub unread : (y : RecordFault) → Open f → Unreadable rest place y → Fails bytes (Unread y)

@@ -24,6 +24,7 @@ use mesh::Refusal;
 use mesh::Sizes;
 use mesh::TurnOrder;
 
+// What a description says besides its links, which the link map holds.
 #[derive(Clone, Copy)]
 pub struct Description {
     pub sizes: Sizes,
@@ -41,16 +42,21 @@ fn clear(map: &mut [u8])
     map.fill(0);
 }
 
+// S comes first.
 fn read_extent(input: &[u8]) -> Result<(Extent, &[u8]), StackFault>
     ensures { λ r. ⌜ Cases r (λ v. InRange (records.Stack (v .0)) × (now (input .entry) ≡ text (sized (v .0)) ++ now (v .1))) (λ x. Fails (now (input .entry)) x) ⌝ }
 {
     let (record, rest) = next_record(input, 0)?;
     let Record::Stack(extent) = record else {
-        return Err(StackFault::Stack { refusal: Refusal::OutOfPlace, place: 0 });
+        return Err(StackFault::Stack {
+            refusal: Refusal::OutOfPlace,
+            place: 0,
+        });
     };
     Ok((extent, rest))
 }
 
+// O comes second: `rest` is what follows S.
 fn read_sets<'a>(input: &[u8], rest: &'a [u8]) -> Result<(SetNumbers, &'a [u8]), StackFault>
     requires { ⌜ ((e : Extent) × InRange (records.Stack e) × (now input ≡ text (sized e) ++ now rest)) ⌝ }
     ensures { λ r. ⌜ Cases r (λ v. InRange (records.Order (v .0)) × (now (rest .entry) ≡ spelled (records.Order (v .0)) ++ now (v .1))) (λ x. Fails (now (input .entry)) x) ⌝ }
@@ -58,7 +64,10 @@ fn read_sets<'a>(input: &[u8], rest: &'a [u8]) -> Result<(SetNumbers, &'a [u8]),
     let place = input.len() - rest.len();
     let (record, after) = next_record(rest, place)?;
     let Record::Order(sets) = record else {
-        return Err(StackFault::Stack { refusal: Refusal::OutOfPlace, place });
+        return Err(StackFault::Stack {
+            refusal: Refusal::OutOfPlace,
+            place,
+        });
     };
     Ok((sets, after))
 }
@@ -74,17 +83,29 @@ fn turn_order(sets: SetNumbers, place: usize) -> Result<TurnOrder, StackFault>
     }
 }
 
-// Marks a link of the record at `place`.
+// Marks the link of the record at `place`. A byte that is marked already tells that the link was named before.
 fn mark(link: Link, place: usize, sizes: Sizes, map: &mut [u8]) -> Result<(), StackFault>
     requires { ⌜ 4032 ≤ length (now map) ⌝ }
     ensures { λ r. ⌜ Cases r (λ _. Within (extent-of sizes) link × (getD (now (map .entry)) (spot (extent-of sizes) link) 0 ≡ 1 → ⊥) × (now (map .exit) ≡ set (now (map .entry)) (spot (extent-of sizes) link) 1)) (λ x. ((x ≡ Stack LinkOutside place) × (Within (extent-of sizes) link → ⊥)) ⊎ ((x ≡ Stack LinkTwice place) × Within (extent-of sizes) link × (getD (now (map .entry)) (spot (extent-of sizes) link) 0 ≡ 1))) ⌝ }
 {
     if link.x >= sizes.width || link.y >= sizes.height || link.gap >= sizes.planes - 1 {
-        return Err(StackFault::Stack { refusal: Refusal::LinkOutside, place });
+        return Err(StackFault::Stack {
+            refusal: Refusal::LinkOutside,
+            place,
+        });
     }
-    let index = sizes.index(link.gap, Place { x: link.x, y: link.y });
+    let index = sizes.index(
+        link.gap,
+        Place {
+            x: link.x,
+            y: link.y,
+        },
+    );
     if map[index] == LINK {
-        return Err(StackFault::Stack { refusal: Refusal::LinkTwice, place });
+        return Err(StackFault::Stack {
+            refusal: Refusal::LinkTwice,
+            place,
+        });
     }
     map[index] = LINK;
     Ok(())
@@ -103,23 +124,34 @@ fn every_gap_linked(sizes: Sizes, map: &[u8]) -> bool
     true
 }
 
-// What is tested once Z is read: `after` is what follows it.
+// What is tested once Z is read: every gap has a link, and nothing follows. `after` is what does.
 fn close(input: &[u8], after: &[u8], description: Description, map: &[u8]) -> Result<(), StackFault>
     requires { ⌜ 4032 ≤ length (now map) ⌝ ∗ ⌜ Reading (now input) description (90 ∷ now after) (now map) ⌝ }
     ensures { λ r. ⌜ Cases r (λ _. Described (now (input .entry)) description (now (map .entry))) (λ x. Fails (now (input .entry)) x) ⌝ }
 {
     let end = input.len() - after.len();
     if !every_gap_linked(description.sizes, map) {
-        return Err(StackFault::Stack { refusal: Refusal::GapUnlinked, place: end - 1 });
+        return Err(StackFault::Stack {
+            refusal: Refusal::GapUnlinked,
+            place: end - 1,
+        });
     }
     if !after.is_empty() {
-        return Err(StackFault::Stack { refusal: Refusal::OutOfPlace, place: end });
+        return Err(StackFault::Stack {
+            refusal: Refusal::OutOfPlace,
+            place: end,
+        });
     }
     Ok(())
 }
 
-// Reads links up to Z, and marks them.
-fn read_links(input: &[u8], start: &[u8], description: Description, map: &mut [u8]) -> Result<(), StackFault>
+// Reads the links and Z, and marks the links. A record's place is what has been read before it.
+fn read_links(
+    input: &[u8],
+    start: &[u8],
+    description: Description,
+    map: &mut [u8],
+) -> Result<(), StackFault>
     requires { ⌜ 4032 ≤ length (now map) ⌝ ∗ ⌜ Reading (now input) description (now start) (now map) ⌝ }
     ensures { λ r. ⌜ Cases r (λ _. Described (now (input .entry)) description (now (map .exit))) (λ x. Fails (now (input .entry)) x) ⌝ }
 {
@@ -130,7 +162,10 @@ fn read_links(input: &[u8], start: &[u8], description: Description, map: &mut [u
         match record {
             Record::Pillar(link) => mark(link, place, description.sizes, map)?,
             Record::End => return close(input, after, description, map),
-            _ => return Err(StackFault::Stack { refusal: Refusal::OutOfPlace, place }),
+            _ => return Err(StackFault::Stack {
+                refusal: Refusal::OutOfPlace,
+                place,
+            }),
         }
         rest = after;
     }
@@ -145,21 +180,25 @@ fn read_all(input: &[u8], map: &mut [u8]) -> Result<Description, StackFault>
     let place = input.len() - rest.len();
     let (sets, links) = read_sets(input, rest)?;
     let order = turn_order(sets, place)?;
-    // The record layer has seen to the range.
+    // The record layer has refused sizes out of range.
     let sizes = Sizes::new(extent.width, extent.height, extent.planes).unwrap();
     let description = Description { sizes, order };
     read_links(input, links, description, map)?;
     Ok(description)
 }
 
-// Reads a description, and marks its links in `map`.
+// Reads a description, and marks its links in `map`, which is 0 everywhere else. A map that is too short stays as it
+// is; any other fault leaves the whole map 0.
 pub fn read(input: &[u8], map: &mut [u8]) -> Result<Description, StackFault>
     ensures short { λ r. ⌜ (length (now (map .entry)) < 4032 → (r ≡ Err (Stack ShortBuffer 0)) × (now (map .exit) ≡ now (map .entry))) ⌝ }
     ensures meaning { λ r. ⌜ (4032 ≤ length (now (map .entry)) → Answer (now (input .entry)) (now (map .exit)) r) ⌝ }
     ensures only { λ _. ⌜ OneReading (now (input .entry)) ⌝ }
 {
     if map.len() < MAP_BYTES {
-        return Err(StackFault::Stack { refusal: Refusal::ShortBuffer, place: 0 });
+        return Err(StackFault::Stack {
+            refusal: Refusal::ShortBuffer,
+            place: 0,
+        });
     }
     clear(map);
     let answer = read_all(input, map);

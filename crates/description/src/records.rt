@@ -17,8 +17,11 @@ use mesh::Refusal;
 use mesh::Sizes;
 
 const LAST_SET: u8 = 1;
+
 const LAST_COLUMN: u8 = 23;
+
 const LAST_ROW: u8 = 23;
+
 const LAST_GAP: u8 = 6;
 
 fn in_range(record: Record) -> bool
@@ -27,7 +30,10 @@ fn in_range(record: Record) -> bool
     match record {
         Record::Stack(extent) => Sizes::new(extent.width, extent.height, extent.planes).is_ok(),
         Record::Order(sets) => {
-            sets.north <= LAST_SET && sets.east <= LAST_SET && sets.south <= LAST_SET && sets.west <= LAST_SET
+            sets.north <= LAST_SET
+                && sets.east <= LAST_SET
+                && sets.south <= LAST_SET
+                && sets.west <= LAST_SET
         }
         Record::Pillar(link) => link.x <= LAST_COLUMN && link.y <= LAST_ROW && link.gap <= LAST_GAP,
         Record::End => true,
@@ -53,7 +59,10 @@ fn whole_record(input: &[u8], place: usize) -> Result<(Record, &[u8]), RecordFau
             Ok((Record::Pillar(link), rest))
         }
         'Z' => Ok((Record::End, body)),
-        _ => Err(RecordFault::Record { refusal: Refusal::UnknownLetter, place }),
+        _ => Err(RecordFault::Record {
+            refusal: Refusal::UnknownLetter,
+            place,
+        }),
     }
 }
 
@@ -62,7 +71,10 @@ pub fn next_record(input: &[u8], place: usize) -> Result<(Record, &[u8]), Record
 {
     let (record, rest) = whole_record(input, place)?;
     if !in_range(record) {
-        return Err(RecordFault::Record { refusal: Refusal::OutOfRange, place });
+        return Err(RecordFault::Record {
+            refusal: Refusal::OutOfRange,
+            place,
+        });
     }
     Ok((record, rest))
 }

@@ -21,6 +21,7 @@ hex-digit n = cond (ltb n 10) (48 + n) (97 + (n - 10))
 abbrev pub hex : ℕ → List ℕ
 hex b = hex-digit (b / 16) ∷ hex-digit (b % 16) ∷ []
 
+-- the one byte between two parts of a line
 abbrev pub space : List ℕ
 space = codes " "
 
@@ -43,7 +44,7 @@ abbrev pub lines : ℕ → ℕ → List ℕ → List ℕ
 lines w zero bytes = []
 lines w (suc n) bytes = line (take w bytes) ++ lines w n (drop w bytes)
 
--- the location bytes of a stack: planes rise, and rows within a plane
+-- the location bytes of a stack, plane by plane and row by row, both rising
 abbrev pub plan-text : Sizes → List ℕ → List ℕ
 plan-text sizes bytes = lines (sizes .width) (sizes .planes * sizes .height) bytes
 
@@ -57,5 +58,6 @@ word Stack = codes "stack"
 abbrev pub fault-line : Layer → ℕ → ℕ → List ℕ
 fault-line layer number place = word layer ++ space ++ decimal number ++ space ++ decimal place ++ newline
 
+-- what a fault tells, as its line
 abbrev pub fault-text : StackFault → List ℕ
 fault-text fault = fault-line (layer-of fault) (number-of (refusal-of fault)) (place-of fault)

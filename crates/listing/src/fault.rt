@@ -57,7 +57,8 @@ fn fault_line(fault: StackFault) -> Line
 }
 
 // Lists a fault as one line: the word of its layer, its refusal's number and its place. The reply is the number
-// of bytes written at the front of `out`; what lies beyond them stays.
+// of bytes written at the front of `out`; what lies beyond them stays. Refused, with `out` as it was, where the line
+// does not fit.
 pub fn list_fault(fault: StackFault, out: &mut [u8]) -> Result<usize, Refusal>
     ensures listed { λ r. ⌜ Listed (fault-text fault) (now (out .entry)) (now (out .exit)) r ⌝ }
 {

@@ -4,9 +4,9 @@ ghost use mathlib.Core.List.{List};
 ghost use Prim.Native.Nat.{ℕ, _*_, _-_, _≤_, _<_};
 ghost use lib.ListN.{length, set};
 ghost use Rattle.std.specs.declared.result.Result.the-variants.{Err};
+ghost use Rattle.std.specs.shelf.Lists.{joined};
 ghost use Rattle.mesh.specs.declared.refusals.Refusal.the-variants.{ShortBuffer};
 ghost use Rattle.listing.specs.Listed.{Listed, over};
-ghost use Rattle.std.specs.shelf.Lists.{joined};
 ghost use Rattle.listing.specs.Made.{number};
 ghost use Rattle.listing.specs.Text.{hex-digit, line, lines, plan-text};
 use mesh::Refusal;
@@ -94,7 +94,8 @@ fn plan_size(sizes: Sizes) -> usize
 }
 
 // Lists the location bytes of a plan, a line to each row of a plane, planes and rows rising. The reply is the number
-// of bytes written at the front of `out`; what lies beyond them stays.
+// of bytes written at the front of `out`; what lies beyond them stays. Refused, with `out` as it was, where there are
+// fewer bytes than routers or the text does not fit.
 pub fn list_plan(sizes: Sizes, bytes: &[u8], out: &mut [u8]) -> Result<usize, Refusal>
     ensures few { λ r. ⌜ (length (now (bytes .entry)) < sizes .planes * (sizes .width * sizes .height) → (r ≡ Err ShortBuffer) × (now (out .exit) ≡ now (out .entry))) ⌝ }
     ensures listed { λ r. ⌜ (sizes .planes * (sizes .width * sizes .height) ≤ length (now (bytes .entry)) → Listed (plan-text sizes (now (bytes .entry))) (now (out .entry)) (now (out .exit)) r) ⌝ }

@@ -1,4 +1,4 @@
-use mathlib.Core.Path.{refl, ap, sym}
+use mathlib.Core.Path.{refl, sym, ap}
 use native.Mathlib.Omega.{arith}
 use lib.ListN.{length, length-append}
 use Rattle.std.proofs.shelf.Lists.{nil-from-length}
@@ -16,7 +16,7 @@ pub returns-then-not-every-gap-linked : need.returns-then-not-every-gap-linked
 returns-then-not-every-gap-linked c = bare-gap (c .pre .1) (c .pre .0) _ refl (c .if-not-every-gap-linked .ensures tt)
 
 pub returns-then-not-is-empty : need.returns-then-not-is-empty
-returns-then-not-is-empty c = follows (c .pre .1) (c .pre .0) (c .if-not-every-gap-linked .ensures tt) (eqb-false (length (c .args .after .now)) 0 (sym (c .if-not-is-empty .ensures tt)))
+returns-then-not-is-empty c = follows (c .pre .1) (c .pre .0) (c .if-not-every-gap-linked .ensures tt) (eqb-false _ _ (sym (c .if-not-is-empty .ensures tt)))
 
 pub returns : need.returns
-returns c = complete (c .pre .1) (c .pre .0) (c .if-not-every-gap-linked .ensures tt) (nil-from-length (c .args .after .now) (eqb-true (length (c .args .after .now)) 0 (sym (c .if-not-is-empty .ensures tt))))
+returns c = complete (c .pre .1) (c .pre .0) (c .if-not-every-gap-linked .ensures tt) (nil-from-length _ (eqb-true _ _ (sym (c .if-not-is-empty .ensures tt))))

@@ -11,10 +11,11 @@ pub part-contains-end : need.part-contains-end
 part-contains-end c = part-below (c .args .sizes) (c .loop-gap .gap) (omega arith) (c .area-area .ensures) (c .pre)
 
 pub returns-then-not-contains : need.returns-then-not-contains
-returns-then-not-contains c =
-    (c .loop-gap .gap,
-        omega arith,
-        λ h. both-ways _ (c .if-not-contains .taken) (has-from-contains _ _ _ (c .contains .ensures .cases) .1 (rw (c .area-area .ensures) h)))
+returns-then-not-contains c = (
+  c .loop-gap .gap,
+  omega arith,
+  λ h. both-ways _ (c .if-not-contains .taken) (has-from-contains _ _ _ (c .contains .ensures .cases) .1 (rw (c .area-area .ensures) h)),
+)
 
 pub loop-gap-again : need.loop-gap-again
 loop-gap-again c =

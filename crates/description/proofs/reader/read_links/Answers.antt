@@ -1,10 +1,11 @@
 use mathlib.Core.List.{_++_}
-use mathlib.Core.Path.{_≡_, refl, sym, ap, subst}
+use mathlib.Core.Path.{_≡_, refl, ap, _∙_}
 use native.Mathlib.Omega.{arith}
 use lib.ListN.{length, length-append}
-use Rattle.description_laws.specs.Description.{InRange, after-o, spelled}
+use Rattle.description_laws.specs.declared.records.Record.{Record}
+use Rattle.description_laws.specs.Description.{after-o, spelled}
 use Rattle.description_laws.proofs.Firsts.{first-place}
-use Rattle.description.specs.Reading.{Fails, Reading}
+use Rattle.description.specs.Reading.{Fails}
 use Rattle.description.proofs.Exits.{exit}
 use Rattle.description.proofs.Marks.{another}
 use Rattle.description.proofs.Steps.{unmarked}
@@ -47,29 +48,19 @@ returns-in-Break-mark c =
     (Fails (c .args .input .now))
     (c .from-residual-in-Break-mark .ensures .1)
     (unmarked
-      (c .in-Break-mark .field-0 .0)
-      _
-      (c .loop-record .inv)
-      (omega arith)
-      (c .in-Pillar .link)
-      (c .in-Continue-record .after .now)
-      (subst (λ r. c .loop-record .rest .now ≡ spelled r ++ c .in-Continue-record .after .now) (c .in-Pillar .is) (h .0))
-      (subst InRange (c .in-Pillar .is) (h .1))
-      refl
-      (c .in-Break-mark .ensures tt))
+    _
+    _
+    (c .loop-record .inv)
+    (omega arith)
+    (c .in-Pillar .link)
+    (c .in-Continue-record .after .now)
+    (rw (c .in-Pillar .is) at (h .0))
+    (rw (c .in-Pillar .is) at (h .1))
+    refl
+    (c .in-Break-mark .ensures tt))
 
 pub loop-record-again : need.loop-record-again
 loop-record-again c =
     let h = c .in-Continue-record .ensures tt in
     let m = c .in-Continue-mark .ensures tt in
-    subst
-    (Reading (c .args .input .now) (c .args .description) (c .in-Continue-record .after .now))
-    (sym (m .2))
-    (another
-      (c .loop-record .inv)
-      (omega arith)
-      (c .in-Pillar .link)
-      (c .in-Continue-record .after .now)
-      (subst (λ r. c .loop-record .rest .now ≡ spelled r ++ c .in-Continue-record .after .now) (c .in-Pillar .is) (h .0))
-      (m .0)
-      (m .1))
+    rw (m .2) (another (c .loop-record .inv) (omega arith) (c .in-Pillar .link) (c .in-Continue-record .after .now) (rw (c .in-Pillar .is) at (h .0)) (m .0) (m .1))
