@@ -1,7 +1,7 @@
 // The sizes of a stack. A value of this type exists only in range.
 ghost use Prim.Native.Nat.{_≤_};
 
-#[derive(Clone, Copy, PartialEq, Eq, Debug)]
+#[derive(Clone, Copy)]
 pub struct Sizes {
     pub width: u8,
     pub height: u8,

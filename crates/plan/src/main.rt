@@ -24,7 +24,9 @@ const INPUT: u64 = 16_142;
 
 // A link map, the location bytes of the largest stack, and their text.
 const MAP: usize = 4_032;
+
 const ROUTERS: usize = 4_608;
+
 const TEXT: usize = 13_824;
 
 // Plans a stack by MD-safe, and lists the location bytes.
@@ -35,7 +37,15 @@ fn list_stack(description: Description, map: &[u8], out: &mut [u8]) -> Result<us
 {
     let sizes = description.sizes;
     let mut bytes = [0; ROUTERS];
-    plan(sizes, map, &MdSafe { order: description.order }, &mut First, &mut bytes)?;
+    plan(
+        sizes,
+        map,
+        &MdSafe {
+            order: description.order,
+        },
+        &mut First,
+        &mut bytes,
+    )?;
     list_plan(sizes, &bytes[0..sizes.routers()], out)
 }
 

@@ -11,9 +11,9 @@ use Rattle.plan.proofs.list_stack.Needs as need
 pub returns-in-Break-plan : need.returns-in-Break-plan
 returns-in-Break-plan c =
     absurd (⊎-elim
-      (λ s. long-enough (c .args .description .sizes) (c .args .map .now) (replicate 4608 0) (c .pre .whole) (omega (arith, length-replicate {A = ℕ} 4608 0)) (s .0))
-      (λ u. u .1 .2 (c .pre .linked (u .1 .0) (u .1 .1)))
-      (c .in-Break-plan .ensures tt .0))
+    (λ s. long-enough (c .args .description .sizes) (c .args .map .now) (replicate 4608 0) (c .pre .whole) (omega (arith, length-replicate {A = ℕ} 4608 0)) (s .0))
+    (λ u. u .1 .2 (c .pre .linked (u .1 .0) (u .1 .1)))
+    (c .in-Break-plan .ensures tt .0))
 
 pub returns : need.returns
 returns c =
