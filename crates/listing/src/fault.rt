@@ -1,34 +1,13 @@
 // The line of a fault.
 ghost use mathlib.Core.Path.{_≡_};
 ghost use Prim.Native.Nat.{_≤_};
-ghost use Rattle.description_laws.specs.Faults.{layer-of, refusal-of, place-of};
 ghost use Rattle.listing.specs.Listed.{Listed};
 ghost use Rattle.listing.specs.Made.{said};
 ghost use Rattle.listing.specs.Text.{fault-text, word};
 use crate::builder::Line;
 use description_laws::Layer;
-use description_laws::RecordFault;
 use description_laws::StackFault;
 use mesh::Refusal;
-
-// The layer, the refusal and the place that a fault tells.
-fn told(fault: StackFault) -> (Layer, Refusal, usize)
-    ensures { λ r. ⌜ (r .0 ≡ layer-of fault) × (r .1 ≡ refusal-of fault) × (r .2 ≡ place-of fault) ⌝ }
-{
-    match fault {
-        StackFault::Unread(RecordFault::Ends(ends)) => (
-            Layer::Byte,
-            Refusal::InputEnds,
-            ends.place,
-        ),
-        StackFault::Unread(RecordFault::Record { refusal, place }) => (
-            Layer::Record,
-            refusal,
-            place,
-        ),
-        StackFault::Stack { refusal, place } => (Layer::Stack, refusal, place),
-    }
-}
 
 fn word(layer: Layer) -> &'static [u8]
     ensures { λ r. ⌜ now r ≡ word layer ⌝ }
@@ -45,13 +24,12 @@ fn fault_line(fault: StackFault) -> Line
     ensures text { λ r. ⌜ said r ≡ fault-text fault ⌝ }
     ensures size { λ r. ⌜ r .len ≤ 32 ⌝ }
 {
-    let (layer, refusal, place) = told(fault);
     let mut line = Line::new();
-    line.push_all(word(layer));
+    line.push_all(word(fault.layer()));
     line.push(b' ');
-    line.push_decimal(usize::from(refusal.number()));
+    line.push_decimal(usize::from(fault.refusal().number()));
     line.push(b' ');
-    line.push_decimal(place);
+    line.push_decimal(fault.place());
     line.push(b'\n');
     line
 }

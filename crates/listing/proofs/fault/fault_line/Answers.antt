@@ -19,16 +19,16 @@ length-number : (n : ℕ) → n < 256 → length (decimal n) ≤ 3
 length-number n h = length-decimal-le 3 n (lit< tt) (omega arith) (omega arith)
 
 pub push-decimal-requires : need.push-decimal-requires
-push-decimal-requires c κs = omega (arith, length-word (c .told-layer .result .0), ap length (c .word .ensures))
+push-decimal-requires c κs = omega (arith, length-word (c .layer .result), ap length (c .word .ensures))
 
 pub push-requires-2 : need.push-requires-2
 push-requires-2 c κs =
-    omega (arith, length-word (c .told-layer .result .0), ap length (c .word .ensures), length-number (c .from .result) (omega arith))
+    omega (arith, length-word (c .layer .result), ap length (c .word .ensures), length-number (c .from .result) (omega arith))
 
 pub push-decimal-requires-2 : need.push-decimal-requires-2
 push-decimal-requires-2 c κs =
-    omega (arith, length-word (c .told-layer .result .0), ap length (c .word .ensures), length-number (c .from .result) (omega arith))
+    omega (arith, length-word (c .layer .result), ap length (c .word .ensures), length-number (c .from .result) (omega arith))
 
 pub push-requires-3 : need.push-requires-3
 push-requires-3 c κs =
-    omega (arith, length-word (c .told-layer .result .0), ap length (c .word .ensures), length-number (c .from .result) (omega arith))
+    omega (arith, length-word (c .layer .result), ap length (c .word .ensures), length-number (c .from .result) (omega arith))
