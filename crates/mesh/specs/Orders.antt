@@ -1,11 +1,16 @@
 -- Turn orders: which sets may be made into one.
 use mathlib.Core.Path.{_≡_}
-use Prim.Native.Nat.{ℕ, _≤_}
+use mathlib.Core.Bool.{cond}
+use Prim.Native.Nat.{ℕ, min, _≤_}
 use Rattle.std.specs.declared.result.Result.{Result}
 use Rattle.std.specs.declared.result.Result.the-variants.{Ok, Err}
+use Rattle.mesh.specs.declared.compass.Direction.{Direction}
+use Rattle.mesh.specs.declared.compass.Direction.the-variants.{North, East, South, West}
+use Rattle.mesh.specs.declared.compass.Directions.{Directions}
 use Rattle.mesh.specs.declared.refusals.Refusal.{Refusal}
 use Rattle.mesh.specs.declared.refusals.Refusal.the-variants.{OutOfRange, OneSet}
 use Rattle.mesh.specs.declared.turns.TurnOrder.{TurnOrder}
+use Rattle.mesh.specs.Compass.{has}
 
 -- sets are numbered 0 and 1
 abbrev pub InSets : ℕ → ℕ → ℕ → ℕ → Type 0
@@ -26,3 +31,18 @@ pub record SameOrder (o : TurnOrder) (n e s w : ℕ) : Type 0 where
 abbrev pub Decided : ℕ → ℕ → ℕ → ℕ → Result TurnOrder Refusal → Type 0
 Decided n e s w (Ok o) = SameOrder o n e s w
 Decided n e s w (Err x) = (InSets n e s w → (x ≡ OneSet) × Alike n e s w) × ((InSets n e s w → ⊥) → x ≡ OutOfRange)
+
+-- the set of a direction
+abbrev pub set-of : TurnOrder → Direction → ℕ
+set-of o North = o .north
+set-of o East = o .east
+set-of o South = o .south
+set-of o West = o .west
+
+-- the set of a direction that is needed, and a number above all sets for one that is not
+abbrev pub rank : TurnOrder → Directions → Direction → ℕ
+rank o s d = cond (has d s) (set-of o d) 2
+
+-- the lowest set that holds a needed direction
+abbrev pub lowest : TurnOrder → Directions → ℕ
+lowest o s = min (min (rank o s North) (rank o s East)) (min (rank o s South) (rank o s West))

@@ -1,12 +1,20 @@
 // How turn orders are made.
 ghost use mathlib.Core.Path.{_≡_};
-ghost use Rattle.std.specs.Results.{Cases};
-ghost use Rattle.mesh.specs.Orders.{Decided};
+ghost use mathlib.Core.Bool.{cond};
+ghost use Rattle.mesh.specs.Orders.{Decided, lowest};
+use crate::compass::Directions;
 use crate::refusals::Refusal;
 use crate::turns::TurnOrder;
 
 // Sets are numbered from 0 to this.
 const LAST_SET: u8 = 1;
+
+// The set of a direction, where it is needed.
+fn rank(needed: bool, set: u8) -> u8
+    ensures { λ r. ⌜ r ≡ cond needed set 2 ⌝ }
+{
+    if needed { set } else { LAST_SET + 1 }
+}
 
 impl TurnOrder {
     // A turn order from the set of each direction.
@@ -25,5 +33,14 @@ impl TurnOrder {
             south,
             west,
         })
+    }
+
+    // The lowest set that holds a needed direction, and one above the last set where none is needed.
+    pub fn lowest(self, needed: Directions) -> u8
+        ensures { λ r. ⌜ r ≡ lowest self needed ⌝ }
+    {
+        let first = rank(needed.north, self.north).min(rank(needed.east, self.east));
+        let second = rank(needed.south, self.south).min(rank(needed.west, self.west));
+        first.min(second)
     }
 }

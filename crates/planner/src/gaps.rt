@@ -1,32 +1,21 @@
 // The elevators of a gap, listed from the link map.
 ghost use mathlib.Core.Path.{_≡_};
-ghost use mathlib.Core.Bool.{cond};
-ghost use mathlib.Core.List.{[], _∷_, _++_};
 ghost use Prim.Native.Nat.{ℕ, _+_, _-_, _*_, _≤_, _<_};
-ghost use lib.ListN.{length, take};
+ghost use lib.Dec.{eqb};
+ghost use lib.ListN.{length};
 ghost use Rattle.std.specs.Orderings.{Decides, When};
 ghost use Rattle.routing_laws.specs.Elevators.{Joined, Listed, elevators};
 use mesh::Place;
 use mesh::Sizes;
-
-// The most routers that a plane has.
-pub(crate) const MOST: usize = 576;
+use routing::keep;
 
 // The byte of the link map that stands for a link.
 const LINK: u8 = 1;
 
-// Puts a place behind the `count` kept so far if it passes, and replies with the new count.
-fn keep(room: &mut [Place], count: usize, place: Place, passes: bool) -> usize
-    requires { ⌜ count < length (now room) ⌝ }
-    ensures kept { λ r. ⌜ take r (now (room .exit)) ≡ take count (now (room .entry)) ++ cond passes (place ∷ []) [] ⌝ }
-    ensures bound { λ r. ⌜ r ≤ count + 1 ⌝ }
+fn is_link(byte: u8) -> bool
+    ensures { λ r. ⌜ r ≡ eqb byte 1 ⌝ }
 {
-    if passes {
-        room[count] = place;
-        count + 1
-    } else {
-        count
-    }
+    byte == LINK
 }
 
 // Lists the elevators of a gap row by row into the room lent, and replies with the part that is filled.
@@ -45,7 +34,7 @@ pub(crate) fn elevators<'a>(
     let start = gap * area;
     let mut count = 0;
     for (i, link) in map[start..start + area].iter().enumerate() {
-        count = keep(room, count, sizes.place_at(i), *link == LINK);
+        count = keep(room, count, sizes.place_at(i), is_link(*link));
     }
     &room[0..count]
 }

@@ -1,11 +1,11 @@
 // Plan: every gap's two halves, by a filler that may ask a chooser.
 ghost use mathlib.Core.Path.{_≡_};
 ghost use Prim.Native.Nat.{ℕ, _+_, _-_, _*_, _≤_, _<_};
-ghost use lib.ListN.{getD, length};
+ghost use lib.ListN.{length, replicate};
+ghost use Rattle.mesh.specs.declared.compass.Way.the-variants.{Up, Down};
 ghost use Rattle.routing_laws.specs.Elevators.{Joined};
 ghost use Rattle.routing_laws.specs.Filling.{put-plane, task};
-ghost use Rattle.routing_laws.specs.Plan.{Planned, after-gap, begun, down-task, job, planned, up-task};
-use crate::gaps::MOST;
+ghost use Rattle.routing_laws.specs.Plan.{Planned, after-gap, begun, chooser-after, job, planned};
 use crate::gaps::all_linked;
 use crate::gaps::elevators;
 use mesh::Place;
@@ -14,6 +14,7 @@ use mesh::Sizes;
 use mesh::Way;
 use routing::Chooser;
 use routing::Filler;
+use routing::MOST;
 
 // Fills one half of plane `plane` among the bytes of all planes.
 fn fill_plane<C: Chooser, F: Filler<C>>(
@@ -43,34 +44,36 @@ fn fill_plane<C: Chooser, F: Filler<C>>(
 }
 
 // Fills the two halves of a gap: Up of the plane below it, then Down of the plane above it.
-fn fill_gap<C: Chooser, F: Filler<C>>(
-    sizes: Sizes,
-    map: &[u8],
-    gap: u8,
-    filler: &F,
-    chooser: &mut C,
-    bytes: &mut [u8],
-)
+fn fill_halves<C: Chooser, F: Filler<C>>(sizes: Sizes, gap: u8, elevators: &[Place], filler: &F, chooser: &mut C, bytes: &mut [u8])
+    requires inner { ⌜ gap < 255 ⌝ }
+    requires some { ⌜ 0 < length (now elevators) ⌝ }
+    requires low { ⌜ gap * (sizes .width * sizes .height) + sizes .width * sizes .height ≤ length (now bytes) ⌝ }
+    requires high { ⌜ (gap + 1) * (sizes .width * sizes .height) + sizes .width * sizes .height ≤ length (now bytes) ⌝ }
+    ensures writes { λ _. ⌜ now (bytes .exit) ≡ put-plane (sizes .width * sizes .height) (gap + 1) Down (put-plane (sizes .width * sizes .height) gap Up (now (bytes .entry)) (half (now (filler .entry)) (task sizes gap Up (now (elevators .entry))) (now (chooser .entry)))) (half (now (filler .entry)) (task sizes (gap + 1) Down (now (elevators .entry))) (next (now (filler .entry)) (task sizes gap Up (now (elevators .entry))) (now (chooser .entry)))) ⌝ }
+    ensures goes { λ _. ⌜ now (chooser .exit) ≡ next (now (filler .entry)) (task sizes (gap + 1) Down (now (elevators .entry))) (next (now (filler .entry)) (task sizes gap Up (now (elevators .entry))) (now (chooser .entry))) ⌝ }
+{
+    fill_plane(sizes, gap, Way::Up, elevators, filler, chooser, bytes);
+    fill_plane(sizes, gap + 1, Way::Down, elevators, filler, chooser, bytes);
+}
+
+// Lists the elevators of a gap, and fills its two halves.
+fn fill_gap<C: Chooser, F: Filler<C>>(sizes: Sizes, map: &[u8], gap: u8, filler: &F, chooser: &mut C, bytes: &mut [u8])
     requires inner { ⌜ gap + 1 < sizes .planes ⌝ }
     requires whole { ⌜ (sizes .planes - 1) * (sizes .width * sizes .height) ≤ length (now map) ⌝ }
     requires fits { ⌜ length (now bytes) ≡ sizes .planes * (sizes .width * sizes .height) ⌝ }
     requires linked { ⌜ Joined (sizes .width) (sizes .height) (now map) gap ⌝ }
     ensures writes { λ _. ⌜ now (bytes .exit) ≡ after-gap (job sizes (now (map .entry)) (half (now (filler .entry))) (next (now (filler .entry)))) (now (chooser .entry)) gap (now (bytes .entry)) ⌝ }
-    ensures goes { λ _. ⌜ now (chooser .exit) ≡ next (now (filler .entry)) (down-task (job sizes (now (map .entry)) (half (now (filler .entry))) (next (now (filler .entry)))) gap) (next (now (filler .entry)) (up-task (job sizes (now (map .entry)) (half (now (filler .entry))) (next (now (filler .entry)))) gap) (now (chooser .entry))) ⌝ }
+    ensures goes { λ _. ⌜ now (chooser .exit) ≡ chooser-after (job sizes (now (map .entry)) (half (now (filler .entry))) (next (now (filler .entry)))) (now (chooser .entry)) gap ⌝ }
 {
     let mut room = [Place { x: 0, y: 0 }; MOST];
     let list = elevators(sizes, map, usize::from(gap), &mut room);
-    fill_plane(sizes, gap, Way::Up, list, filler, chooser, bytes);
-    fill_plane(sizes, gap + 1, Way::Down, list, filler, chooser, bytes);
+    fill_halves(sizes, gap, list, filler, chooser, bytes);
 }
 
-// Sets every byte to 0.
 fn erase(bytes: &mut [u8])
-    ensures { λ _. ⌜ ((k : ℕ) → k < length (now (bytes .exit)) → getD (now (bytes .exit)) k 0 ≡ 0) ⌝ }
+    ensures { λ _. ⌜ now (bytes .exit) ≡ replicate (length (now (bytes .entry))) 0 ⌝ }
 {
-    for byte in bytes.iter_mut() {
-        *byte = 0;
-    }
+    bytes.fill(0);
 }
 
 // Fills every gap in turn. The bytes are those of the stack's routers and no more.

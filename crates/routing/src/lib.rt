@@ -1,6 +1,7 @@
 // The interfaces by which a buyer brings tie rules and fillers, and those that are supplied.
 mod choosing;
 mod filling;
+mod rooms;
 mod safe;
 
 pub use choosing::Chooser;
@@ -9,5 +10,7 @@ pub use choosing::FirstChooser;
 pub use choosing::Last;
 pub use choosing::LastChooser;
 pub use filling::Filler;
+pub use rooms::MOST;
+pub use rooms::keep;
 pub use safe::MdSafe;
 pub use safe::MdSafeFiller;

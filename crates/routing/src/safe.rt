@@ -3,7 +3,7 @@ ghost use mathlib.Core.Path.{_≡_};
 ghost use Prim.Native.Nat.{_*_, _<_};
 ghost use lib.ListN.{length};
 ghost use Rattle.routing_laws.specs.Filling.{put-halves};
-ghost use Rattle.routing_laws.specs.Nearest.{LastNearest, PointsSafely, safe-half};
+ghost use Rattle.routing_laws.specs.Nearest.{LastNearest, PointsSafely, pointing, safe-half};
 use crate::choosing::Chooser;
 use crate::filling::Filler;
 use mesh::Directions;
@@ -35,6 +35,13 @@ fn last_nearest(place: Place, elevators: &[Place]) -> usize
     best
 }
 
+// The half-byte that points from a place at an elevator.
+pub(crate) fn pointing(place: Place, elevator: Place) -> u8
+    ensures { λ r. ⌜ r ≡ pointing place elevator ⌝ }
+{
+    Directions::toward(place, elevator).pack()
+}
+
 // One half of a plane: each router points at its last nearest elevator.
 fn point(sizes: Sizes, way: Way, elevators: &[Place], bytes: &mut [u8])
     requires some { ⌜ 0 < length (now elevators) ⌝ }
@@ -45,7 +52,7 @@ fn point(sizes: Sizes, way: Way, elevators: &[Place], bytes: &mut [u8])
     for (i, byte) in bytes.iter_mut().enumerate() {
         let place = sizes.place_at(i);
         let target = elevators[last_nearest(place, elevators)];
-        *byte = way.with_half(*byte, Directions::toward(place, target).pack());
+        *byte = way.with_half(*byte, pointing(place, target));
     }
 }
 

@@ -7,11 +7,12 @@ use Prim.Native.Nat.{ℕ, zero, suc, _+_, _-_, _*_, _/_, _%_, _≤_, _<_}
 use native.Mathlib.Numerals.{add-one}
 use native.Mathlib.Omega.{arith}
 use lib.Dec.{ltb}
-use lib.ListN.{length, getD}
+use lib.ListN.{length, getD, replicate, length-replicate}
 use Rattle.std.specs.shelf.Lists.{All}
 use Rattle.std.proofs.shelf.Bits.{div-add-mod', div-below, mod-below}
 use Rattle.std.proofs.shelf.Counted.{fill-by-all}
 use Rattle.std.proofs.shelf.Elements.{all-getD}
+use Rattle.std.proofs.shelf.Lists.{getD-replicate}
 use Rattle.std.proofs.shelf.Tests.{cases-eq, cond-false, cond-true, lt-ltb, le-ltb}
 use Rattle.std.proofs.shelf.Ways.{tells}
 use Rattle.mesh.specs.declared.compass.Way.the-variants.{Up, Down}
@@ -78,10 +79,13 @@ module _ {C : Type 0} (j : Job C) (c : C) where
   down-at g i = getD (j .half (down-task j g) (between j c g)) i 0
 
   -- with no gap planned
-  pub holds-none : (bytes : List ℕ) → length bytes ≡ routers j → ((k : ℕ) → k < length bytes → getD bytes k 0 ≡ 0) → Holds j c 0 bytes
-  holds-none bytes e blank = record {
-    whole = e;
-    each = λ z i l m. blank (z * area j + i) (omega (arith, plane-order (area j) z (j .sizes .planes) l)) ∙ sym (byte-none up-at down-at z i);
+  pub holds-none : (bytes : List ℕ) → bytes ≡ replicate (routers j) 0 → Holds j c 0 bytes
+  holds-none bytes blank = record {
+    whole = ap length blank ∙ length-replicate (routers j) 0;
+    each = λ z i l m.
+        ap (λ b. getD b (z * area j + i) 0) blank
+        ∙ getD-replicate (routers j) (z * area j + i) 0 0 (omega (arith, plane-order (area j) z (j .sizes .planes) l))
+        ∙ sym (byte-none up-at down-at z i);
   }
 
   -- with all gaps planned

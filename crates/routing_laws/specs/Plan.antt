@@ -52,10 +52,14 @@ module _ {C : Type 0} (j : Job C) where
   abbrev pub down-task : ℕ → Task
   down-task g = task (j .sizes) (g + 1) Down (elevators-of g)
 
+  -- the chooser's state after the two halves of gap g, from state c before them
+  abbrev pub chooser-after : C → ℕ → C
+  chooser-after c g = j .next (down-task g) (j .next (up-task g) c)
+
   -- the chooser's state when gap g is begun, from state c at the start, and between its two halves
   abbrev pub begun : C → ℕ → C
   begun c zero = c
-  begun c (suc g) = j .next (down-task g) (j .next (up-task g) (begun c g))
+  begun c (suc g) = chooser-after (begun c g) g
 
   abbrev pub between : C → ℕ → C
   between c g = j .next (up-task g) (begun c g)

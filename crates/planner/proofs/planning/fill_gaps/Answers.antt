@@ -1,18 +1,17 @@
 use mathlib.Core.Path.{_≡_, refl, sym, ap, subst, _∙_}
-use Prim.Native.Nat.{ℕ, _+_, _-_, _*_, _≤_, _<_}
+use Prim.Native.Nat.{_+_, _-_}
 use native.Mathlib.Numerals.{add-one}
 use native.Mathlib.Omega.{arith}
-use lib.ListN.{length}
+use lib.ListN.{replicate}
 use Rattle.std.proofs.shelf.Bits.{mul-le}
-use Rattle.routing_laws.specs.Plan.{Job, after-gap, begun, down-task, job, up-task}
+use Rattle.routing_laws.specs.Plan.{after-gap, begun, chooser-after, job}
 use Rattle.routing_laws.proofs.Planning.{Fitting, Holds, holds-all, holds-more, holds-none}
-use Rattle.planner.proofs.planning.fill_gaps.Given as given
 use Rattle.planner.proofs.planning.fill_gaps.Needs as need
 
 pub loop-gap-holds : need.loop-gap-holds
 loop-gap-holds g c =
     let j = job (c .args .sizes) (c .args .map .now) (g .F·Filler .half (c .args .filler .now)) (g .F·Filler .next (c .args .filler .now)) in
-    (holds-none j (c .args .chooser .now) (c .erase .last .bytes) (omega arith) (c .erase .ensures), refl)
+    (holds-none j (c .args .chooser .now) (c .erase .last .bytes) (c .erase .ensures ∙ ap (λ n. replicate n 0) (c .pre .fits)), refl)
 
 pub loop-gap-again : need.loop-gap-again
 loop-gap-again g c =
@@ -23,7 +22,7 @@ loop-gap-again g c =
     let fit : Fitting j = record { long = g .F·Filler·met .long f; small = g .F·Filler·met .small f } in
     let state = c .loop-gap .inv .1 in (
       subst (Holds j ask (gap + 1)) (sym (c .fill-gap .ensures .writes ∙ ap (λ a. after-gap j a gap (c .loop-gap .bytes)) state)) (holds-more j ask fit gap (omega arith) (c .loop-gap .bytes) (c .loop-gap .inv .0)),
-      c .fill-gap .ensures .goes ∙ ap (λ a. j .next (down-task j gap) (j .next (up-task j gap) a)) state ∙ ap (begun j ask) (sym (add-one gap)),
+      c .fill-gap .ensures .goes ∙ ap (λ a. chooser-after j a gap) state ∙ ap (begun j ask) (sym (add-one gap)),
     )
 
 pub returns : need.returns

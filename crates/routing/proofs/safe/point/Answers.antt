@@ -1,10 +1,9 @@
 use mathlib.Core.Path.{ap, subst, _∙_}
 use native.Mathlib.Omega.{arith}
 use lib.ListN.{getD}
-use Rattle.mesh.specs.Compass.{toward}
-use Rattle.mesh.specs.Halves.{pack, with-half}
+use Rattle.mesh.specs.Halves.{with-half}
 use Rattle.routing_laws.specs.Elevators.{origin}
-use Rattle.routing_laws.specs.Nearest.{LastNearest}
+use Rattle.routing_laws.specs.Nearest.{LastNearest, pointing}
 use Rattle.routing_laws.proofs.Safe.{points-safely, safe-all, safe-more, safe-none}
 use Rattle.routing.proofs.safe.point.Needs as need
 
@@ -16,10 +15,10 @@ loop-i-again c =
     let es = c .args .elevators .now in
     let n = c .last-nearest .result in
     let place = c .place-at-place .ensures in
-    let points = c .pack .ensures .bits ∙ ap pack (c .toward .ensures ∙ ap (λ p. toward p (getD es n origin)) place) in
+    let points = c .pointing .ensures ∙ ap (λ p. pointing p (getD es n origin)) place in
     safe-more (c .loop-i .inv) (omega arith)
     (subst (λ p. LastNearest es p n) place (c .last-nearest .ensures))
-    (c .with-half .ensures .bits ∙ ap (with-half (c .args .way) (getD (c .loop-i .bytes) (c .loop-i .i) 0)) points)
+    (c .with-half .ensures ∙ ap (with-half (c .args .way) (getD (c .loop-i .bytes) (c .loop-i .i) 0)) points)
 
 pub returns : need.returns
 returns c =
