@@ -3,6 +3,7 @@ mod choosing;
 mod filling;
 mod rooms;
 mod safe;
+mod ties;
 
 pub use choosing::Chooser;
 pub use choosing::First;
@@ -14,3 +15,4 @@ pub use rooms::MOST;
 pub use rooms::keep;
 pub use safe::MdSafe;
 pub use safe::MdSafeFiller;
+pub use ties::RandomOffline;

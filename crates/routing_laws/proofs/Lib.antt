@@ -1,6 +1,9 @@
+pub mod Compass
 pub mod Filling
 pub mod Listing
 pub mod Nearest
 pub mod Planes
 pub mod Planning
+pub mod Register
 pub mod Safe
+pub mod Ties

@@ -27,9 +27,9 @@ compass es p = record {
 
 -- the same as a relation: each direction exactly where such an elevator exists
 pub record Compass (es : List Place) (p : Place) (s : Directions) : Type 0 where
-  pub north-is : Decides (s .north) ((e : Place) × Has es e × (e .x ≡ p .x) × (p .y < e .y))
+  pub north-is : Decides (s .north) ((e : Place) × Has es e × ((e .x ≡ p .x) × (p .y < e .y)))
   pub east-is : Decides (s .east) ((e : Place) × Has es e × (p .x < e .x))
-  pub south-is : Decides (s .south) ((e : Place) × Has es e × (e .x ≡ p .x) × (e .y < p .y))
+  pub south-is : Decides (s .south) ((e : Place) × Has es e × ((e .x ≡ p .x) × (e .y < p .y)))
   pub west-is : Decides (s .west) ((e : Place) × Has es e × (e .x < p .x))
 
 abbrev pub open-half : ℕ → ℕ → List Place → List ℕ

@@ -1,5 +1,6 @@
 -- The shift register: sixteen bits that move down by one at each question.
-use Prim.Native.Nat.{ℕ, _+_, _*_, _/_, _%_, _^_}
+use mathlib.Core.Path.{_≡_}
+use Prim.Native.Nat.{ℕ, _+_, _*_, _/_, _%_, _^_, _<_}
 use lib.Bits.{bitXor}
 
 -- bit k of a number
@@ -13,3 +14,10 @@ tapped n = bitXor (bitXor (bitXor (bit 0 n) (bit 2 n)) (bit 3 n)) (bit 5 n)
 -- the next state: the bits one lower, and the new top bit
 abbrev pub shifted : ℕ → ℕ
 shifted n = tapped n * 2 ^ 15 + n / 2
+
+-- the same as a relation between two states: no bit but the new top one comes from elsewhere, and never all are zero
+pub record Moved (n m : ℕ) : Type 0 where
+  pub lower : m % 2 ^ 15 ≡ n / 2
+  pub top : m / 2 ^ 15 ≡ tapped n
+  pub some : 0 < m
+  pub bits : m < 2 ^ 16

@@ -1,6 +1,6 @@
 -- Random-offline: which elevators are candidates at a router, when the chooser is asked, and what is written.
 use mathlib.Core.Path.{_≡_}
-use mathlib.Core.Bool.{Bool, cond, true, _&&_}
+use mathlib.Core.Bool.{Bool, cond, false, true, _&&_}
 use mathlib.Core.List.{List, [], _∷_}
 use Prim.Native.Nat.{ℕ, min, _≤_, _<_}
 use lib.Dec.{eqb, leb, ltb}
@@ -8,6 +8,7 @@ use lib.ListN.{length, getD}
 use Rattle.std.specs.Iters.{folded}
 use Rattle.std.specs.shelf.Lists.{Has, kept-by}
 use Rattle.mesh.specs.declared.compass.Direction.{Direction}
+use Rattle.mesh.specs.declared.compass.Way.{Way}
 use Rattle.mesh.specs.declared.grid.Place.{Place}
 use Rattle.mesh.specs.declared.turns.TurnOrder.{TurnOrder}
 use Rattle.mesh.specs.Compass.{distance, has, toward}
@@ -20,13 +21,9 @@ use Rattle.routing_laws.specs.Nearest.{pointing}
 abbrev pub least : Place → List Place → ℕ
 least p es = folded (λ n e. min n (distance p e)) (distance p (getD es 0 origin)) es
 
--- whether an elevator is at that distance
-abbrev pub near : Place → List Place → Place → Bool
-near p es e = eqb (distance p e) (least p es)
-
--- whether it also needs only directions of set 1
-abbrev pub suits : TurnOrder → Place → List Place → Place → Bool
-suits o p es e = near p es e && leb 1 (lowest o (toward p e))
+-- whether an elevator is at a distance m and, where that is asked, needs only directions of set 1
+abbrev pub candidate : TurnOrder → Place → ℕ → Bool → Place → Bool
+candidate o p m late e = cond late (eqb (distance p e) m && leb 1 (lowest o (toward p e))) (eqb (distance p e) m)
 
 -- a list, or another where it is empty
 abbrev pub or-else : List Place → List Place → List Place
@@ -35,7 +32,7 @@ or-else (x ∷ xs) ys = x ∷ xs
 
 -- the candidates: the nearest elevators that need only directions of set 1, else all of the nearest
 abbrev pub candidates : TurnOrder → Place → List Place → List Place
-candidates o p es = or-else (kept-by (suits o p es) es) (kept-by (near p es) es)
+candidates o p es = or-else (kept-by (candidate o p (least p es) true) es) (kept-by (candidate o p (least p es) false) es)
 
 -- the same as a relation: e is nearest to p; e needs only directions of set 1
 abbrev pub Nearest : List Place → Place → Place → Type 0
@@ -55,20 +52,23 @@ pub record Candidates (o : TurnOrder) (p : Place) (es cs : List Place) : Type 0 
 abbrev pub asks : List Place → Bool
 asks cs = ltb 1 (length cs)
 
-module _ {C : Type 0} (position : C → Asked → ℕ) (after : C → Asked → C) (o : TurnOrder) (t : Task) where
+module _ {C : Type 0} (position : C → Asked → ℕ) (after : C → Asked → C) (o : TurnOrder) (z : ℕ) (way : Way) (es : List Place) where
+  -- what the chooser is asked at a router
   abbrev pub question : Place → Asked
-  question p = asked (t .plane) (t .way) p (candidates o p (t .elevators))
+  question p = asked z way p (candidates o p es)
 
   -- the elevator that a router points at: the one replied, or the only candidate
   abbrev pub target : Place → C → Place
-  target p c = getD (question p .candidates) (cond (asks (question p .candidates)) (position c (question p)) 0) origin
+  target p c = getD (candidates o p es) (cond (asks (candidates o p es)) (position c (question p)) 0) origin
 
   -- the chooser's state after a router
   abbrev pub onward : Place → C → C
-  onward p c = cond (asks (question p .candidates)) (after c (question p)) c
+  onward p c = cond (asks (candidates o p es)) (after c (question p)) c
 
-  abbrev pub tie-half : C → List ℕ
-  tie-half c = filled (λ p d. pointing p (target p d)) onward (places (t .width) (t .height)) c
+-- the half that is written, and the chooser's state after it
+abbrev pub tie-half : {C : Type 0} → (C → Asked → ℕ) → (C → Asked → C) → TurnOrder → Task → C → List ℕ
+tie-half position after o t c =
+    filled (λ p d. pointing p (target position after o (t .plane) (t .way) (t .elevators) p d)) (onward position after o (t .plane) (t .way) (t .elevators)) (places (t .width) (t .height)) c
 
-  abbrev pub tie-next : C → C
-  tie-next c = ending onward (places (t .width) (t .height)) c
+abbrev pub tie-next : {C : Type 0} → (C → Asked → ℕ) → (C → Asked → C) → TurnOrder → Task → C → C
+tie-next position after o t c = ending (onward position after o (t .plane) (t .way) (t .elevators)) (places (t .width) (t .height)) c
