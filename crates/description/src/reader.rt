@@ -18,6 +18,7 @@ use description_laws::Record;
 use description_laws::SetNumbers;
 use description_laws::StackFault;
 use description_laws::StackFaultFromRecord;
+use description_laws::readings_are_one;
 use mesh::Link;
 use mesh::Place;
 use mesh::Refusal;
@@ -83,6 +84,14 @@ fn turn_order(sets: SetNumbers, place: usize) -> Result<TurnOrder, StackFault>
     }
 }
 
+// Where a link stands in the link map.
+fn index_of(link: Link, sizes: Sizes) -> usize
+    ensures { λ r. ⌜ r ≡ spot (extent-of sizes) link ⌝ }
+{
+    let Link { x, y, gap } = link;
+    sizes.index(gap, Place { x, y })
+}
+
 // Marks the link of the record at `place`. A byte that is marked already tells that the link was named before.
 fn mark(link: Link, place: usize, sizes: Sizes, map: &mut [u8]) -> Result<(), StackFault>
     requires { ⌜ 4032 ≤ length (now map) ⌝ }
@@ -94,13 +103,7 @@ fn mark(link: Link, place: usize, sizes: Sizes, map: &mut [u8]) -> Result<(), St
             place,
         });
     }
-    let index = sizes.index(
-        link.gap,
-        Place {
-            x: link.x,
-            y: link.y,
-        },
-    );
+    let index = index_of(link, sizes);
     if map[index] == LINK {
         return Err(StackFault::Stack {
             refusal: Refusal::LinkTwice,
@@ -194,6 +197,8 @@ pub fn read(input: &[u8], map: &mut [u8]) -> Result<Description, StackFault>
     ensures meaning { λ r. ⌜ (4032 ≤ length (now (map .entry)) → Answer (now (input .entry)) (now (map .exit)) r) ⌝ }
     ensures only { λ _. ⌜ OneReading (now (input .entry)) ⌝ }
 {
+    // Does nothing: its contract is the clause `only`.
+    readings_are_one(input);
     if map.len() < MAP_BYTES {
         return Err(StackFault::Stack {
             refusal: Refusal::ShortBuffer,

@@ -5,7 +5,7 @@ ghost use Rattle.description_laws.specs.declared.faults.StackFault.the-variant
 ghost use Rattle.description_laws.specs.Faults.{layer-of, place-of, refusal-of};
 use mesh::Refusal;
 
-#[derive(Clone, Copy)]
+#[derive(Clone, Copy, PartialEq, Eq, Debug)]
 pub enum Layer {
     Byte,
     Record,

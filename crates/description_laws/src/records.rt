@@ -2,7 +2,7 @@
 use mesh::Link;
 
 // The body of a record S: columns, rows and planes.
-#[derive(Clone, Copy)]
+#[derive(Clone, Copy, PartialEq, Eq, Debug)]
 pub struct Extent {
     pub width: u8,
     pub height: u8,
@@ -10,7 +10,7 @@ pub struct Extent {
 }
 
 // The body of a record O: the set of each direction.
-#[derive(Clone, Copy)]
+#[derive(Clone, Copy, PartialEq, Eq, Debug)]
 pub struct SetNumbers {
     pub north: u8,
     pub east: u8,

@@ -27,6 +27,7 @@ fn fill_plane<C: Chooser, F: Filler<C>>(
     bytes: &mut [u8],
 )
     requires some { ⌜ 0 < length (now elevators) ⌝ }
+    requires few { ⌜ length (now elevators) ≤ sizes .width * sizes .height ⌝ }
     requires fits { ⌜ plane * (sizes .width * sizes .height) + sizes .width * sizes .height ≤ length (now bytes) ⌝ }
     ensures writes { λ _. ⌜ now (bytes .exit) ≡ put-plane (sizes .width * sizes .height) plane way (now (bytes .entry)) (half (now (filler .entry)) (task sizes plane way (now (elevators .entry))) (now (chooser .entry))) ⌝ }
     ensures goes { λ _. ⌜ now (chooser .exit) ≡ next (now (filler .entry)) (task sizes plane way (now (elevators .entry))) (now (chooser .entry)) ⌝ }
@@ -47,6 +48,7 @@ fn fill_plane<C: Chooser, F: Filler<C>>(
 fn fill_halves<C: Chooser, F: Filler<C>>(sizes: Sizes, gap: u8, elevators: &[Place], filler: &F, chooser: &mut C, bytes: &mut [u8])
     requires inner { ⌜ gap < 255 ⌝ }
     requires some { ⌜ 0 < length (now elevators) ⌝ }
+    requires few { ⌜ length (now elevators) ≤ sizes .width * sizes .height ⌝ }
     requires low { ⌜ gap * (sizes .width * sizes .height) + sizes .width * sizes .height ≤ length (now bytes) ⌝ }
     requires high { ⌜ (gap + 1) * (sizes .width * sizes .height) + sizes .width * sizes .height ≤ length (now bytes) ⌝ }
     ensures writes { λ _. ⌜ now (bytes .exit) ≡ put-plane (sizes .width * sizes .height) (gap + 1) Down (put-plane (sizes .width * sizes .height) gap Up (now (bytes .entry)) (half (now (filler .entry)) (task sizes gap Up (now (elevators .entry))) (now (chooser .entry)))) (half (now (filler .entry)) (task sizes (gap + 1) Down (now (elevators .entry))) (next (now (filler .entry)) (task sizes gap Up (now (elevators .entry))) (now (chooser .entry)))) ⌝ }

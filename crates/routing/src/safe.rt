@@ -1,6 +1,6 @@
 // MD-safe: every router points at the last listed of its nearest elevators, and nobody is asked.
 ghost use mathlib.Core.Path.{_≡_};
-ghost use Prim.Native.Nat.{_*_, _<_};
+ghost use Prim.Native.Nat.{_*_, _≤_, _<_};
 ghost use lib.ListN.{length};
 ghost use Rattle.routing_laws.specs.Filling.{put-halves};
 ghost use Rattle.routing_laws.specs.Nearest.{LastNearest, PointsSafely, pointing, safe-half};
@@ -71,6 +71,7 @@ pub impl<C: Chooser> Filler<C> for MdSafe as MdSafeFiller {
         bytes: &mut [u8],
     )
         requires some { ⌜ 0 < length (now elevators) ⌝ }
+        requires few { ⌜ length (now elevators) ≤ sizes .width * sizes .height ⌝ }
         requires whole { ⌜ length (now bytes) ≡ sizes .width * sizes .height ⌝ }
         ensures writes { λ _. ⌜ now (bytes .exit) ≡ put-halves way (now (bytes .entry)) (safe-half (sizes .width) (sizes .height) (now (elevators .entry))) ⌝ }
         ensures goes { λ _. ⌜ now (chooser .exit) ≡ now (chooser .entry) ⌝ }

@@ -110,3 +110,20 @@ fn settle_all<C: Chooser>(order: TurnOrder, sizes: Sizes, plane: u8, way: Way, e
         *byte = way.with_half(*byte, pointing(place, elevator));
     }
 }
+
+pub impl<C: Chooser> Filler<C> for RandomOffline as RandomOfflineFiller {
+    ghost half = { λ f t c. tie-half (C·Chooser .position) (C·Chooser .after) (f .order) t c };
+
+    ghost next = { λ f t c. tie-next (C·Chooser .position) (C·Chooser .after) (f .order) t c };
+
+    fn fill(&self, sizes: Sizes, plane: u8, way: Way, elevators: &[Place], chooser: &mut C, bytes: &mut [u8])
+        requires some { ⌜ 0 < length (now elevators) ⌝ }
+        requires few { ⌜ length (now elevators) ≤ sizes .width * sizes .height ⌝ }
+        requires whole { ⌜ length (now bytes) ≡ sizes .width * sizes .height ⌝ }
+        ensures writes { λ _. ⌜ now (bytes .exit) ≡ put-halves way (now (bytes .entry)) (tie-half (C·Chooser .position) (C·Chooser .after) (now (self .entry) .order) (task sizes plane way (now (elevators .entry))) (now (chooser .entry))) ⌝ }
+        ensures goes { λ _. ⌜ now (chooser .exit) ≡ tie-next (C·Chooser .position) (C·Chooser .after) (now (self .entry) .order) (task sizes plane way (now (elevators .entry))) (now (chooser .entry)) ⌝ }
+        ensures exact { λ _. ⌜ ((p : Place) → Candidates (now (self .entry) .order) p (now (elevators .entry)) (candidates (now (self .entry) .order) p (now (elevators .entry)))) ⌝ }
+    {
+        settle_all(self.order, sizes, plane, way, elevators, chooser, bytes);
+    }
+}

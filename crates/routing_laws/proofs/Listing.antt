@@ -1,6 +1,6 @@
 -- The list of elevators: exactly the links, each once, in row order.
 use mathlib.Core.Path.{_≡_, refl, sym, ap, subst, _∙_}
-use mathlib.Core.Bool.{Bool, true, false, cond}
+use mathlib.Core.Bool.{Bool, cond, false, not, true}
 use mathlib.Core.List.{List, [], _∷_, _++_, map}
 use mathlib.Core.Logic.{⊎-elim}
 use Prim.Native.Nat.{ℕ, zero, suc, _+_, _-_, _*_, _/_, _%_, _≤_, _<_}
@@ -13,6 +13,7 @@ use Rattle.std.specs.shelf.Lists.{All, Has, kept-by}
 use Rattle.std.proofs.shelf.Bits.{div-add-mod', div-below, div-mul-add, mod-below, mod-mul-add, mul-add-lt}
 use Rattle.std.proofs.shelf.Counted.{getD-map-counting, length-map-counting}
 use Rattle.std.proofs.shelf.Elements.{all-getD, all-has, all-has-itself, all-kept-by, has-append-right, kept-by-more, kept-by-passes}
+use Rattle.std.proofs.shelf.Filters.{length-kept-by-both}
 use Rattle.std.proofs.shelf.Lists.{getD-default, getD-drop, getD-take, length-take-le, take-all}
 use Rattle.std.proofs.shelf.Tests.{cond-both, cond-true, eq-eqb, eqb-true}
 use Rattle.mesh.specs.declared.grid.Place.{Place}
@@ -147,3 +148,6 @@ module _ (w h : ℕ) (some-columns : 0 < w) (some-rows : 0 < h) where
 
   pub joined-some : (links : List ℕ) (g : ℕ) → Joined w h links g → 0 < length (elevators w h links g)
   joined-some links g q = let e = all-listed links g .complete (q .at) (q .inside) (q .link) in omega (arith, e .1)
+
+  pub elevators-most : (links : List ℕ) (g : ℕ) → length (elevators w h links g) ≤ w * h
+  elevators-most links g = omega (arith, length-kept-by-both (linked w h links g) (λ p. not (linked w h links g p)) (λ _. refl) (places w h), length-map-counting (place-at w h) 0 (w * h))

@@ -20,7 +20,7 @@ use Rattle.routing_laws.specs.Elevators.{origin, places}
 use Rattle.routing_laws.specs.Filling.{put-halves}
 use Rattle.routing_laws.specs.Nearest.{LastNearest, PointsSafely, last-nearest, pointing, safe-half}
 use Rattle.routing_laws.proofs.Filling.{Left, filled-alone, left-all, left-more, left-none, put-halves-at}
-use Rattle.routing_laws.proofs.Nearest.{last-nearest-found, last-nearest-is}
+use Rattle.routing_laws.proofs.Nearest.{last-nearest-found}
 
 -- a half that is a function of the place
 module _ (f : Place → ℕ) (w h : ℕ) where
@@ -60,21 +60,19 @@ module _ (w h : ℕ) (es : List Place) where
       let found = last-nearest-found {es = es} {p = p} some in
       (found .0, found .1, written-at (λ q. pointing q (last-nearest q es)) w h way bytes e safe-below i l ∙ ap (pointing p) (sym (found .2)))
 
--- the loop that writes it
-pub record SafeLeft (w h : ℕ) (es : List Place) (way : Way) (bytes : List ℕ) (i : ℕ) (bytes′ : List ℕ) : Type 0 where
-  pub left : Left {C = Unit {0}} way (λ p _. pointing p (last-nearest p es)) (λ _ c. c) (places w h) bytes tt i bytes′ tt
+-- the loop that writes a half which is a function f of the place
+pub record AloneLeft (f : Place → ℕ) (w h : ℕ) (way : Way) (bytes : List ℕ) (i : ℕ) (bytes′ : List ℕ) : Type 0 where
+  pub left : Left {C = Unit {0}} way (λ p _. f p) (λ _ c. c) (places w h) bytes tt i bytes′ tt
 
-module _ {w h : ℕ} {es : List Place} {way : Way} {bytes : List ℕ} where
-  pub safe-none : length bytes ≡ w * h → SafeLeft w h es way bytes 0 bytes
-  safe-none e = record { left = left-none (e ∙ sym (length-map-counting (place-at w h) 0 (w * h))) }
+module _ {f : Place → ℕ} {w h : ℕ} {way : Way} {bytes : List ℕ} where
+  pub alone-none : length bytes ≡ w * h → AloneLeft f w h way bytes 0 bytes
+  alone-none e = record { left = left-none (e ∙ sym (length-map-counting (place-at w h) 0 (w * h))) }
 
-  pub safe-more : {i b r : ℕ} {bytes′ : List ℕ} → SafeLeft w h es way bytes i bytes′ → i < length bytes′ → LastNearest es (place-at w h i) b
-      → r ≡ with-half way (getD bytes′ i 0) (pointing (place-at w h i) (getD es b origin)) → SafeLeft w h es way bytes (i + 1) (set bytes′ i r)
-  safe-more {i} {b} {r} {bytes′} h′ l near e =
-      let f : Place → ℕ = λ p. pointing p (last-nearest p es) in
-      let here : i < w * h = omega (arith, h′ .left .long, length-map-counting (place-at w h) 0 (w * h)) in
-      let same : r ≡ with-half way (getD bytes′ i 0) (f (getD (places w h) i origin)) = e ∙ ap (λ q. with-half way (getD bytes′ i 0) (pointing (place-at w h i) q)) (last-nearest-is near) ∙ ap (λ p. with-half way (getD bytes′ i 0) (f p)) (sym (place-of f w h i here)) in
-      subst (λ v. SafeLeft w h es way bytes (i + 1) (set bytes′ i v)) (sym same) record { left = left-more (h′ .left) l }
+  pub alone-more : {i : ℕ} {bytes′ : List ℕ} → AloneLeft f w h way bytes i bytes′ → i < length bytes′ → (r : ℕ) → r ≡ with-half way (getD bytes′ i 0) (f (place-at w h i)) → AloneLeft f w h way bytes (i + 1) (set bytes′ i r)
+  alone-more {i} {bytes′} q l r e =
+      let here : i < w * h = omega (arith, q .left .long, length-map-counting (place-at w h) 0 (w * h)) in
+      let same = e ∙ ap (λ p. with-half way (getD bytes′ i 0) (f p)) (sym (place-of f w h i here)) in
+      subst (λ v. AloneLeft f w h way bytes (i + 1) (set bytes′ i v)) (sym same) record { left = left-more (q .left) l }
 
-  pub safe-all : {i : ℕ} {bytes′ : List ℕ} → SafeLeft w h es way bytes i bytes′ → length bytes′ ≤ i → bytes′ ≡ put-halves way bytes (safe-half w h es)
-  safe-all h′ l = left-all (h′ .left) l .0 ∙ ap (put-halves way bytes) (filled-alone (λ p. pointing p (last-nearest p es)) (places w h) tt)
+  pub alone-all : {i : ℕ} {bytes′ : List ℕ} → AloneLeft f w h way bytes i bytes′ → length bytes′ ≤ i → bytes′ ≡ put-halves way bytes (map f (places w h))
+  alone-all q l = left-all (q .left) l .0 ∙ ap (put-halves way bytes) (filled-alone f (places w h) tt)

@@ -8,7 +8,7 @@ use native.Mathlib.Omega.{arith}
 use lib.Dec.{eqb, leb}
 use lib.ListN.{length, getD, set, take}
 use Rattle.std.specs.Iters.{folded}
-use Rattle.std.specs.shelf.Lists.{Has, kept-by}
+use Rattle.std.specs.shelf.Lists.{All, Has, kept-by}
 use Rattle.std.proofs.shelf.Counted.{length-map-counting}
 use Rattle.std.proofs.shelf.Elements.{has-append-right, has-getD, kept-by-more}
 use Rattle.std.proofs.shelf.Tests.{and-from, and-parts, cases-lt, cond-both, cond-true, eq-eqb, eqb-true, le-leb, leb-true}
@@ -21,8 +21,9 @@ use Rattle.mesh.specs.Compass.{distance, has, toward}
 use Rattle.mesh.specs.Orders.{lowest, rank, set-of}
 use Rattle.mesh.specs.Halves.{with-half}
 use Rattle.mesh.specs.Layout.{place-at}
+use Rattle.mesh.proofs.Masks.{pack-small}
 use Rattle.routing_laws.specs.Elevators.{origin, places}
-use Rattle.routing_laws.specs.Filling.{Asked, Task, put-halves}
+use Rattle.routing_laws.specs.Filling.{Asked, Task, filled, put-halves}
 use Rattle.routing_laws.specs.Nearest.{pointing}
 use Rattle.routing_laws.specs.Ties.{Candidates, LateOnly, Nearest, candidate, candidates, least, onward, or-else, target, tie-half, tie-next}
 use Rattle.routing_laws.proofs.Filling.{Left, left-all, left-more, left-none}
@@ -172,3 +173,19 @@ module _ {C : Type 0} {position : C → Asked → ℕ} {after : C → Asked → 
 
   pub tie-all : {i : ℕ} {bytes′ : List ℕ} {c′ : C} → TieLeft position after o t bytes c i bytes′ c′ → length bytes′ ≤ i → (bytes′ ≡ put-halves (t .way) bytes (tie-half position after o t c)) × (c′ ≡ tie-next position after o t c)
   tie-all h l = left-all (h .left) l
+
+-- its length, and its range
+filled-long : {C : Type 0} (point : Place → C → ℕ) (step : Place → C → C) (ps : List Place) (c : C) → length (filled point step ps c) ≡ length ps
+filled-long point step [] c = refl
+filled-long point step (p ∷ ps) c = ap suc (filled-long point step ps (step p c))
+
+filled-small : {C : Type 0} (point : Place → C → ℕ) (step : Place → C → C) → ((p : Place) (c : C) → point p c < 16) → (ps : List Place) (c : C) → All (λ v. v < 16) (filled point step ps c)
+filled-small point step small [] c = tt
+filled-small point step small (p ∷ ps) c = (small p c, filled-small point step small ps (step p c))
+
+module _ {C : Type 0} (position : C → Asked → ℕ) (after : C → Asked → C) (o : TurnOrder) (t : Task) (c : C) where
+  pub tie-long : length (tie-half position after o t c) ≡ t .width * t .height
+  tie-long = filled-long _ _ (places (t .width) (t .height)) c ∙ length-map-counting (place-at (t .width) (t .height)) 0 (t .width * t .height)
+
+  pub tie-small : All (λ v. v < 16) (tie-half position after o t c)
+  tie-small = filled-small _ _ (λ p d. pack-small (toward p (target position after o (t .plane) (t .way) (t .elevators) p d))) (places (t .width) (t .height)) c

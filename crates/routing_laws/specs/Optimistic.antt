@@ -25,6 +25,13 @@ compass es p = record {
   west = any (λ e. ltb (e .x) (p .x)) es;
 }
 
+-- what one elevator adds, and two sets together
+abbrev pub sighted : Place → Place → Directions
+sighted p e = record { north = eqb (e .x) (p .x) && ltb (p .y) (e .y); east = ltb (p .x) (e .x); south = eqb (e .x) (p .x) && ltb (e .y) (p .y); west = ltb (e .x) (p .x) }
+
+abbrev pub joined : Directions → Directions → Directions
+joined s t = record { north = s .north || t .north; east = s .east || t .east; south = s .south || t .south; west = s .west || t .west }
+
 -- the same as a relation: each direction exactly where such an elevator exists
 pub record Compass (es : List Place) (p : Place) (s : Directions) : Type 0 where
   pub north-is : Decides (s .north) ((e : Place) × Has es e × ((e .x ≡ p .x) × (p .y < e .y)))

@@ -6,7 +6,7 @@ use Rattle.std.proofs.shelf.Bits.{mul-le}
 use Rattle.mesh.specs.declared.compass.Way.the-variants.{Up, Down}
 use Rattle.routing_laws.specs.Elevators.{elevators}
 use Rattle.routing_laws.specs.Filling.{put-plane, task}
-use Rattle.routing_laws.proofs.Listing.{joined-some}
+use Rattle.routing_laws.proofs.Listing.{elevators-most, joined-some}
 use Rattle.routing_laws.proofs.Planes.{plane-order}
 use Rattle.planner.proofs.planning.fill_gap.Given as given
 use Rattle.planner.proofs.planning.fill_gap.Needs as need
@@ -37,6 +37,7 @@ fill-halves-requires g c κs =
     record {
       inner = omega arith;
       some = offered g (need.at·fill-halves-requires g c .After-elevators-list);
+      few = subst (λ l. length l ≤ n) (sym (listed g (need.at·fill-halves-requires g c .After-elevators-list))) (elevators-most (s .width) (s .height) (s .«some_columns») (s .«some_rows») (c .args .map .now) (c .args .gap));
       low = omega (arith, plane-order n (c .args .gap) (s .planes) (omega arith), c .pre .fits);
       high = omega (arith, plane-order n (c .args .gap + 1) (s .planes) (omega arith), c .pre .fits);
     }
