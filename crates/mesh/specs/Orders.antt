@@ -1,7 +1,9 @@
 -- Turn orders: which sets may be made into one.
 use mathlib.Core.Path.{_≡_}
-use mathlib.Core.Bool.{cond}
+use mathlib.Core.Bool.{Bool, cond, _&&_}
 use Prim.Native.Nat.{ℕ, min, _≤_}
+use native.Mathlib.Omega.{arith}
+use lib.Dec.{eqb, lit≤}
 use Rattle.std.specs.declared.result.Result.{Result}
 use Rattle.std.specs.declared.result.Result.the-variants.{Ok, Err}
 use Rattle.mesh.specs.declared.compass.Direction.{Direction}
@@ -46,3 +48,21 @@ rank o s d = cond (has d s) (set-of o d) 2
 -- the lowest set that holds a needed direction
 abbrev pub lowest : TurnOrder → Directions → ℕ
 lowest o s = min (min (rank o s North) (rank o s East)) (min (rank o s South) (rank o s West))
+
+-- of the needed directions, those in the lowest set that holds any
+abbrev pub allows : TurnOrder → Directions → Direction → Bool
+allows o s d = has d s && eqb (set-of o d) (lowest o s)
+
+abbrev pub permitted : TurnOrder → Directions → Directions
+permitted o s = record { north = allows o s North; east = allows o s East; south = allows o s South; west = allows o s West }
+
+-- XY: East and West come first
+abbrev pub xy : TurnOrder
+xy = record {
+  north = 1; east = 0; south = 1; west = 0;
+  «north_most» = lit≤ tt; «east_most» = lit≤ tt; «south_most» = lit≤ tt; «west_most» = lit≤ tt;
+  «two_sets» = λ e _ _. no-path e;
+}
+  where
+    no-path : _≡_ {A = ℕ} 1 0 → ⊥
+    no-path e = omega arith

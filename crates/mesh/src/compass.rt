@@ -58,3 +58,10 @@ impl Place {
         u16::from(self.x.abs_diff(other.x)) + u16::from(self.y.abs_diff(other.y))
     }
 }
+
+// What a packet does in a plane: it seeks an elevator for its way, or it is bound for a router of this plane.
+#[derive(Clone, Copy)]
+pub enum Trip {
+    Seeking,
+    Bound,
+}

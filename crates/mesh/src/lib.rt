@@ -11,6 +11,7 @@ mod turns;
 
 pub use compass::Direction;
 pub use compass::Directions;
+pub use compass::Trip;
 pub use compass::Way;
 pub use grid::Link;
 pub use grid::Place;

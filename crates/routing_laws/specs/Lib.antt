@@ -1,5 +1,7 @@
+pub mod Chains
 pub mod Elevators
 pub mod Filling
+pub mod Guides
 pub mod Nearest
 pub mod Optimistic
 pub mod Plan
