@@ -59,8 +59,14 @@ permitted o s = record { north = allows o s North; east = allows o s East; south
 -- XY: East and West come first
 abbrev pub xy : TurnOrder
 xy = record {
-  north = 1; east = 0; south = 1; west = 0;
-  «north_most» = lit≤ tt; «east_most» = lit≤ tt; «south_most» = lit≤ tt; «west_most» = lit≤ tt;
+  north = 1;
+  east = 0;
+  south = 1;
+  west = 0;
+  «north_most» = lit≤ tt;
+  «east_most» = lit≤ tt;
+  «south_most» = lit≤ tt;
+  «west_most» = lit≤ tt;
   «two_sets» = λ e _ _. no-path e;
 }
   where

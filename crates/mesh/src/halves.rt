@@ -21,7 +21,11 @@ fn bit(direction: Direction) -> u8
 fn bit_in(set: Directions, direction: Direction) -> u8
     ensures { λ r. ⌜ r ≡ share set direction ⌝ }
 {
-    if set.has(direction) { bit(direction) } else { 0 }
+    if set.has(direction) {
+        bit(direction)
+    } else {
+        0
+    }
 }
 
 fn is_set(half: u8, direction: Direction) -> bool

@@ -45,7 +45,14 @@ fn fill_plane<C: Chooser, F: Filler<C>>(
 }
 
 // Fills the two halves of a gap: Up of the plane below it, then Down of the plane above it.
-fn fill_halves<C: Chooser, F: Filler<C>>(sizes: Sizes, gap: u8, elevators: &[Place], filler: &F, chooser: &mut C, bytes: &mut [u8])
+fn fill_halves<C: Chooser, F: Filler<C>>(
+    sizes: Sizes,
+    gap: u8,
+    elevators: &[Place],
+    filler: &F,
+    chooser: &mut C,
+    bytes: &mut [u8],
+)
     requires inner { ⌜ gap < 255 ⌝ }
     requires some { ⌜ 0 < length (now elevators) ⌝ }
     requires few { ⌜ length (now elevators) ≤ sizes .width * sizes .height ⌝ }
@@ -59,7 +66,14 @@ fn fill_halves<C: Chooser, F: Filler<C>>(sizes: Sizes, gap: u8, elevators: &[Pla
 }
 
 // Lists the elevators of a gap, and fills its two halves.
-fn fill_gap<C: Chooser, F: Filler<C>>(sizes: Sizes, map: &[u8], gap: u8, filler: &F, chooser: &mut C, bytes: &mut [u8])
+fn fill_gap<C: Chooser, F: Filler<C>>(
+    sizes: Sizes,
+    map: &[u8],
+    gap: u8,
+    filler: &F,
+    chooser: &mut C,
+    bytes: &mut [u8],
+)
     requires inner { ⌜ gap + 1 < sizes .planes ⌝ }
     requires whole { ⌜ (sizes .planes - 1) * (sizes .width * sizes .height) ≤ length (now map) ⌝ }
     requires fits { ⌜ length (now bytes) ≡ sizes .planes * (sizes .width * sizes .height) ⌝ }

@@ -22,7 +22,12 @@ fn sight(place: Place, elevator: Place) -> Directions
     if elevator.x == place.x {
         way
     } else {
-        Directions { north: false, east: way.east, south: false, west: way.west }
+        Directions {
+            north: false,
+            east: way.east,
+            south: false,
+            west: way.west,
+        }
     }
 }
 
@@ -41,7 +46,12 @@ fn join(first: Directions, second: Directions) -> Directions
 fn look(place: Place, elevators: &[Place]) -> Directions
     ensures { λ r. ⌜ r ≡ compass (now (elevators .entry)) place ⌝ }
 {
-    let mut seen = Directions { north: false, east: false, south: false, west: false };
+    let mut seen = Directions {
+        north: false,
+        east: false,
+        south: false,
+        west: false,
+    };
     for elevator in elevators {
         seen = join(seen, sight(place, *elevator));
     }
@@ -64,7 +74,15 @@ pub impl<C: Chooser> Filler<C> for Optimistic as OptimisticFiller {
 
     ghost next = { λ _ _ c. c };
 
-    fn fill(&self, sizes: Sizes, plane: u8, way: Way, elevators: &[Place], chooser: &mut C, bytes: &mut [u8])
+    fn fill(
+        &self,
+        sizes: Sizes,
+        plane: u8,
+        way: Way,
+        elevators: &[Place],
+        chooser: &mut C,
+        bytes: &mut [u8],
+    )
         requires some { ⌜ 0 < length (now elevators) ⌝ }
         requires few { ⌜ length (now elevators) ≤ sizes .width * sizes .height ⌝ }
         requires whole { ⌜ length (now bytes) ≡ sizes .width * sizes .height ⌝ }

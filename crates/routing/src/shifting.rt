@@ -60,6 +60,17 @@ impl ShiftRegister {
         }
         Ok(ShiftRegister { state })
     }
+
+    // Moves the bits by one, and replies with the new state.
+    fn advance(&mut self) -> u16
+        ensures value { λ r. ⌜ r ≡ shifted (now (self .entry) .state) ⌝ }
+        ensures goes { λ _. ⌜ now (self .exit) ≡ shift (now (self .entry)) ⌝ }
+        ensures moves { λ _. ⌜ Moved (now (self .entry) .state) (now (self .exit) .state) ⌝ }
+    {
+        let state = next_state(self.state);
+        *self = holding(state);
+        state
+    }
 }
 
 pub impl Chooser for ShiftRegister as ShiftRegisterChooser {
@@ -67,13 +78,8 @@ pub impl Chooser for ShiftRegister as ShiftRegisterChooser {
 
     ghost after = { λ c _. shift c };
 
-    fn choose(&mut self, plane: u8, way: Way, router: Place, candidates: &[Place]) -> usize
-        ensures replies { λ r. ⌜ r ≡ shifted (now (self .entry) .state) % max (length (now (candidates .entry))) 1 ⌝ }
-        ensures goes { λ _. ⌜ now (self .exit) ≡ shift (now (self .entry)) ⌝ }
-        ensures moves { λ _. ⌜ Moved (now (self .entry) .state) (now (self .exit) .state) ⌝ }
-    {
-        let state = next_state(self.state);
-        *self = holding(state);
+    fn choose(&mut self, plane: u8, way: Way, router: Place, candidates: &[Place]) -> usize {
+        let state = self.advance();
         pick(state, candidates)
     }
 }

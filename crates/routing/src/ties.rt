@@ -52,14 +52,26 @@ fn is_candidate(order: TurnOrder, place: Place, elevator: Place, least: u16, lat
 }
 
 // Lists the elevators that pass, and replies with their number.
-fn list_nearest(order: TurnOrder, place: Place, elevators: &[Place], least: u16, late: bool, room: &mut [Place]) -> usize
+fn list_nearest(
+    order: TurnOrder,
+    place: Place,
+    elevators: &[Place],
+    least: u16,
+    late: bool,
+    room: &mut [Place],
+) -> usize
     requires { ⌜ length (now elevators) ≤ length (now room) ⌝ }
     ensures list { λ r. ⌜ take r (now (room .exit)) ≡ kept-by (candidate order place least late) (now (elevators .entry)) ⌝ }
     ensures within { λ r. ⌜ r ≤ length (now (elevators .entry)) ⌝ }
 {
     let mut count = 0;
     for elevator in elevators {
-        count = keep(room, count, *elevator, is_candidate(order, place, *elevator, least, late));
+        count = keep(
+            room,
+            count,
+            *elevator,
+            is_candidate(order, place, *elevator, least, late),
+        );
     }
     count
 }
@@ -81,7 +93,14 @@ fn list_candidates(order: TurnOrder, place: Place, elevators: &[Place], room: &m
 }
 
 // The elevator that a router points at: the chooser is asked only where two or more candidates remain.
-fn settle<C: Chooser>(order: TurnOrder, plane: u8, way: Way, place: Place, elevators: &[Place], chooser: &mut C) -> Place
+fn settle<C: Chooser>(
+    order: TurnOrder,
+    plane: u8,
+    way: Way,
+    place: Place,
+    elevators: &[Place],
+    chooser: &mut C,
+) -> Place
     requires some { ⌜ 0 < length (now elevators) ⌝ }
     requires few { ⌜ length (now elevators) ≤ 576 ⌝ }
     ensures settles { λ r. ⌜ r ≡ target position after order plane way (now (elevators .entry)) place (now (chooser .entry)) ⌝ }
@@ -97,7 +116,15 @@ fn settle<C: Chooser>(order: TurnOrder, plane: u8, way: Way, place: Place, eleva
 }
 
 // One half of a plane, router by router.
-fn settle_all<C: Chooser>(order: TurnOrder, sizes: Sizes, plane: u8, way: Way, elevators: &[Place], chooser: &mut C, bytes: &mut [u8])
+fn settle_all<C: Chooser>(
+    order: TurnOrder,
+    sizes: Sizes,
+    plane: u8,
+    way: Way,
+    elevators: &[Place],
+    chooser: &mut C,
+    bytes: &mut [u8],
+)
     requires some { ⌜ 0 < length (now elevators) ⌝ }
     requires few { ⌜ length (now elevators) ≤ 576 ⌝ }
     requires whole { ⌜ length (now bytes) ≡ sizes .width * sizes .height ⌝ }
@@ -116,7 +143,15 @@ pub impl<C: Chooser> Filler<C> for RandomOffline as RandomOfflineFiller {
 
     ghost next = { λ f t c. tie-next (C·Chooser .position) (C·Chooser .after) (f .order) t c };
 
-    fn fill(&self, sizes: Sizes, plane: u8, way: Way, elevators: &[Place], chooser: &mut C, bytes: &mut [u8])
+    fn fill(
+        &self,
+        sizes: Sizes,
+        plane: u8,
+        way: Way,
+        elevators: &[Place],
+        chooser: &mut C,
+        bytes: &mut [u8],
+    )
         requires some { ⌜ 0 < length (now elevators) ⌝ }
         requires few { ⌜ length (now elevators) ≤ sizes .width * sizes .height ⌝ }
         requires whole { ⌜ length (now bytes) ≡ sizes .width * sizes .height ⌝ }

@@ -100,7 +100,7 @@ module _ (o : TurnOrder) (p : Place) (es : List Place) where
 
   -- a list, with what it holds, or else another
   from-lists : 0 < length es → (late others : List Place) → ((e : Place) → Nearest es p e → LateOnly o p e → Has late e) → ((e : Place) → Has late e → Nearest es p e × LateOnly o p e)
-    → ((e : Place) → Nearest es p e → Has others e) → ((e : Place) → Has others e → Nearest es p e) → Candidates o p es (or-else late others)
+      → ((e : Place) → Nearest es p e → Has others e) → ((e : Place) → Has others e → Nearest es p e) → Candidates o p es (or-else late others)
   from-lists l [] others to from to′ from′ =
       let some = least-some p es l in
       let first = to′ (some .0) (at-nearest p es (some .0) (some .1) (some .2)) in
@@ -132,7 +132,7 @@ or-else-none (x ∷ xs) ys l = absurd (omega arith)
 
 -- the loop that keeps what passes, one turn
 pub kept-more : (test : Place → Bool) (es front front′ : List Place) (i : ℕ) (b : Bool) → i < length es → front ≡ kept-by test (take i es) → b ≡ test (getD es i origin)
-  → front′ ≡ front ++ cond b (getD es i origin ∷ []) [] → front′ ≡ kept-by test (take (i + 1) es)
+    → front′ ≡ front ++ cond b (getD es i origin ∷ []) [] → front′ ≡ kept-by test (take (i + 1) es)
 kept-more test es front front′ i b l before is after =
     after ∙ (λ k. before k ++ cond (is k) (getD es i origin ∷ []) []) ∙ sym (kept-by-more test es i origin l)
 
@@ -159,8 +159,8 @@ module _ {C : Type 0} {position : C → Asked → ℕ} {after : C → Asked → 
   tie-none e = record { left = left-none (e ∙ sym (length-map-counting (place-at (t .width) (t .height)) 0 (t .width * t .height))) }
 
   pub tie-more : {i : ℕ} {bytes′ : List ℕ} {c′ : C} → TieLeft position after o t bytes c i bytes′ c′ → i < length bytes′
-    → (r : ℕ) (d : C) → r ≡ with-half (t .way) (getD bytes′ i 0) (pointing (place-at (t .width) (t .height) i) (target position after o (t .plane) (t .way) (t .elevators) (place-at (t .width) (t .height) i) c′))
-    → d ≡ onward position after o (t .plane) (t .way) (t .elevators) (place-at (t .width) (t .height) i) c′ → TieLeft position after o t bytes c (i + 1) (set bytes′ i r) d
+      → (r : ℕ) (d : C) → r ≡ with-half (t .way) (getD bytes′ i 0) (pointing (place-at (t .width) (t .height) i) (target position after o (t .plane) (t .way) (t .elevators) (place-at (t .width) (t .height) i) c′))
+      → d ≡ onward position after o (t .plane) (t .way) (t .elevators) (place-at (t .width) (t .height) i) c′ → TieLeft position after o t bytes c (i + 1) (set bytes′ i r) d
   tie-more {i} {bytes′} {c′} h l r d wrote went =
       let w = t .width in
       let k = t .height in

@@ -89,20 +89,20 @@ Starts P Bound destination = Inside (P .width) (P .height) destination
 pub data Chain (P : Plane) (trip : Trip) (destination : Place) : Place → Option Direction → ℕ → Type 0 where
   start : {p : Place} → Inside (P .width) (P .height) p → Chain P trip destination p None 0
   move : {p q : Place} {side : Option Direction} {n : ℕ} → Chain P trip destination p side n → (Ended P trip destination p → ⊥) → (d : Direction) → Permits P trip destination p side d
-    → Next d p q → Inside (P .width) (P .height) q → Chain P trip destination q (Some (back d)) (n + 1)
+      → Next d p q → Inside (P .width) (P .height) q → Chain P trip destination q (Some (back d)) (n + 1)
 
 -- the three rules, with one numbering of the channels for all trips: a channel is a router and a port
 pub record Rules (P : Plane) : Type 0 where
   pub number : Place → Direction → ℕ
   -- short of its end a packet is permitted a port, wherever permitted moves can lead
   pub goes : (trip : Trip) (destination : Place) → Starts P trip destination → (p : Place) (side : Option Direction) (n : ℕ) → Chain P trip destination p side n → (Ended P trip destination p → ⊥)
-    → (d : Direction) × Permits P trip destination p side d
+      → (d : Direction) × Permits P trip destination p side d
   -- and each permitted port leads to a router of the plane
   pub stays : (trip : Trip) (destination : Place) → Starts P trip destination → (p : Place) (side : Option Direction) (n : ℕ) → Chain P trip destination p side n → (Ended P trip destination p → ⊥)
-    → (d : Direction) → Permits P trip destination p side d → (q : Place) × Next d p q × Inside (P .width) (P .height) q
+      → (d : Direction) → Permits P trip destination p side d → (q : Place) × Next d p q × Inside (P .width) (P .height) q
   -- of two channels taken one after the other, the second has the greater number
   pub rises : (trip : Trip) (destination : Place) → Starts P trip destination → (p q : Place) (side : Option Direction) (n : ℕ) → Chain P trip destination p side n → (Ended P trip destination p → ⊥)
-    → (d : Direction) → Permits P trip destination p side d → Next d p q → Inside (P .width) (P .height) q → (Ended P trip destination q → ⊥)
-    → (e : Direction) → Permits P trip destination q (Some (back d)) e → number p d < number q e
+      → (d : Direction) → Permits P trip destination p side d → Next d p q → Inside (P .width) (P .height) q → (Ended P trip destination q → ⊥)
+      → (e : Direction) → Permits P trip destination q (Some (back d)) e → number p d < number q e
   -- every chain is short
   pub short : (trip : Trip) (destination : Place) → Starts P trip destination → (p : Place) (side : Option Direction) (n : ℕ) → Chain P trip destination p side n → n ≤ longest (P .width) (P .height)

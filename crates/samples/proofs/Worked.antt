@@ -22,10 +22,21 @@ mixed (Err x) h = absurd (omega (arith, h .0 (lit≤ tt, lit≤ tt, lit≤ tt, l
 
 pub samples : Samples
 samples = record {
-  safe-centre = refl; safe-corner = refl;
-  tie-corner = refl; unasked = refl; tie-centre = refl; asked-with = refl; asked-there = refl;
+  safe-centre = refl;
+  safe-corner = refl;
+  tie-corner = refl;
+  unasked = refl;
+  tie-centre = refl;
+  asked-with = refl;
+  asked-there = refl;
   north-last-corner = refl;
-  open-centre = refl; open-corner = refl; open-elevator = refl;
-  first-state = refl; first-reply = refl; second-state = refl; second-reply = refl;
-  one-set = alike; two-sets = mixed;
+  open-centre = refl;
+  open-corner = refl;
+  open-elevator = refl;
+  first-state = refl;
+  first-reply = refl;
+  second-state = refl;
+  second-reply = refl;
+  one-set = alike;
+  two-sets = mixed;
 }

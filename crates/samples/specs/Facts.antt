@@ -48,8 +48,14 @@ unmoved c _ = c
 -- North-Last: only North is in set 1
 abbrev pub north-last : TurnOrder
 north-last = record {
-  north = 1; east = 0; south = 0; west = 0;
-  «north_most» = lit≤ tt; «east_most» = lit≤ tt; «south_most» = lit≤ tt; «west_most» = lit≤ tt;
+  north = 1;
+  east = 0;
+  south = 0;
+  west = 0;
+  «north_most» = lit≤ tt;
+  «east_most» = lit≤ tt;
+  «south_most» = lit≤ tt;
+  «west_most» = lit≤ tt;
   «two_sets» = λ e _ _. no-path e;
 }
   where

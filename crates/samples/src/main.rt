@@ -32,7 +32,12 @@ fn samples_hold()
 const MAP: [u8; 9] = [1, 0, 0, 0, 0, 0, 0, 0, 1];
 
 // Plans the sample stack, and prints its listing.
-fn show<C: Chooser, F: Filler<C>>(rt: &LibcRuntime, name: &str, filler: &F, chooser: &mut C) -> io::Result<()> {
+fn show<C: Chooser, F: Filler<C>>(
+    rt: &LibcRuntime,
+    name: &str,
+    filler: &F,
+    chooser: &mut C,
+) -> io::Result<()> {
     println!(rt, "{name}")?;
     let mut bytes = [0; 18];
     let mut text = [0; 54];
@@ -91,10 +96,20 @@ fn show_unlinked(rt: &LibcRuntime, planes: u8) -> io::Result<()> {
 fn show_orders(rt: &LibcRuntime) -> io::Result<()> {
     if let Ok(order) = TurnOrder::new(1, 0, 1, 0) {
         show(rt, "md-safe", &MdSafe { order }, &mut First)?;
-        show(rt, "random-offline, XY, first", &RandomOffline { order }, &mut First)?;
+        show(
+            rt,
+            "random-offline, XY, first",
+            &RandomOffline { order },
+            &mut First,
+        )?;
     }
     if let Ok(order) = TurnOrder::new(1, 0, 0, 0) {
-        show(rt, "random-offline, North-Last, last", &RandomOffline { order }, &mut Last)?;
+        show(
+            rt,
+            "random-offline, North-Last, last",
+            &RandomOffline { order },
+            &mut Last,
+        )?;
     }
     show(rt, "optimistic", &Optimistic, &mut First)
 }

@@ -11,10 +11,9 @@ use Rattle.routing.proofs.ties.«list_nearest».Needs as need
 
 pub loop-elevator-again : need.loop-elevator-again
 loop-elevator-again c =
-    let es = c .args .elevators .now in
-    (
+    let es = c .args .elevators .now in (
       kept-more (candidate (c .args .order) (c .args .place) (c .args .least) (c .args .late)) es (take (c .loop-elevator .count) (c .loop-elevator .room)) (take (c .keep-count .result) (c .keep-count .last .room)) (c .loop-elevator .elevator-index) (c .is-candidate .result)
-      (omega arith) (c .loop-elevator .inv .0) (c .is-candidate .ensures) (c .keep-count .ensures .kept (omega arith)),
+          (omega arith) (c .loop-elevator .inv .0) (c .is-candidate .ensures) (c .keep-count .ensures .kept (omega arith)),
       omega (arith, c .keep-count .ensures .bound),
     )
 

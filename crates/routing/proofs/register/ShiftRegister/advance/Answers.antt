@@ -1,9 +1,7 @@
-use mathlib.Core.Path.{sym, ap, subst, _∙_}
-use Prim.Native.Nat.{max, _%_}
-use lib.ListN.{length}
+use mathlib.Core.Path.{sym, subst}
 use Rattle.routing_laws.specs.Register.{Moved}
 use Rattle.routing.specs.Registers.{shift}
-use Rattle.routing.proofs.shifting.ShiftRegisterChooser.choose.Needs as need
+use Rattle.routing.proofs.register.ShiftRegister.advance.Needs as need
 
 pub returns : need.returns
 returns c =
@@ -11,7 +9,7 @@ returns c =
     let next = c .next-state-state .ensures in
     let register = c .holding .ensures in
     record {
-      replies = c .pick .ensures ∙ ap (λ n. n % max (length (c .args .candidates .now)) 1) (next .shifts);
+      value = next .shifts;
       goes = register .only (shift old) (sym (next .shifts));
       moves = subst (Moved (old .state)) (sym (register .holds)) (next .moves (old .some));
     }
