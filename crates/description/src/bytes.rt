@@ -10,7 +10,7 @@ use description_laws::Extent;
 use description_laws::SetNumbers;
 use mesh::Link;
 
-pub fn letter(input: &[u8], place: usize) -> Result<(char, &[u8]), ByteFault>
+pub(crate) fn letter(input: &[u8], place: usize) -> Result<(char, &[u8]), ByteFault>
     ensures { λ r. ⌜ Cases r (λ v. now (input .entry) ≡ v .0 ∷ now (v .1)) (λ f. (f .place ≡ place) × (length (now (input .entry)) ≡ 0)) ⌝ }
 {
     match input {
@@ -19,7 +19,7 @@ pub fn letter(input: &[u8], place: usize) -> Result<(char, &[u8]), ByteFault>
     }
 }
 
-pub fn sizes_body(body: &[u8], place: usize) -> Result<(Extent, &[u8]), ByteFault>
+pub(crate) fn sizes_body(body: &[u8], place: usize) -> Result<(Extent, &[u8]), ByteFault>
     ensures { λ r. ⌜ Cases r (λ v. now (body .entry) ≡ extent-body (v .0) ++ now (v .1)) (λ f. (f .place ≡ place) × (length (now (body .entry)) < 3)) ⌝ }
 {
     match body {
@@ -35,7 +35,7 @@ pub fn sizes_body(body: &[u8], place: usize) -> Result<(Extent, &[u8]), ByteFaul
     }
 }
 
-pub fn order_body(body: &[u8], place: usize) -> Result<(SetNumbers, &[u8]), ByteFault>
+pub(crate) fn order_body(body: &[u8], place: usize) -> Result<(SetNumbers, &[u8]), ByteFault>
     ensures { λ r. ⌜ Cases r (λ v. now (body .entry) ≡ sets-body (v .0) ++ now (v .1)) (λ f. (f .place ≡ place) × (length (now (body .entry)) < 4)) ⌝ }
 {
     match body {
@@ -52,7 +52,7 @@ pub fn order_body(body: &[u8], place: usize) -> Result<(SetNumbers, &[u8]), Byte
     }
 }
 
-pub fn link_body(body: &[u8], place: usize) -> Result<(Link, &[u8]), ByteFault>
+pub(crate) fn link_body(body: &[u8], place: usize) -> Result<(Link, &[u8]), ByteFault>
     ensures { λ r. ⌜ Cases r (λ v. now (body .entry) ≡ link-body (v .0) ++ now (v .1)) (λ f. (f .place ≡ place) × (length (now (body .entry)) < 3)) ⌝ }
 {
     match body {

@@ -66,7 +66,7 @@ fn whole_record(input: &[u8], place: usize) -> Result<(Record, &[u8]), RecordFau
     }
 }
 
-pub fn next_record(input: &[u8], place: usize) -> Result<(Record, &[u8]), RecordFault>
+pub(crate) fn next_record(input: &[u8], place: usize) -> Result<(Record, &[u8]), RecordFault>
     ensures { λ r. ⌜ Cases r (λ v. (now (input .entry) ≡ spelled (v .0) ++ now (v .1)) × InRange (v .0)) (λ f. Unreadable (now (input .entry)) place f) ⌝ }
 {
     let (record, rest) = whole_record(input, place)?;

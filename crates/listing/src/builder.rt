@@ -18,13 +18,13 @@ fn last_digit(number: usize) -> u8
 
 // The text so far is the first `len` of `bytes`.
 #[derive(Drop)]
-pub struct Line {
+pub(crate) struct Line {
     bytes: [u8; ROOM],
     len: usize,
 }
 
 impl Line {
-    pub fn new() -> Line
+    pub(crate) fn new() -> Line
         ensures text { λ r. ⌜ said r ≡ [] ⌝ }
         ensures size { λ r. ⌜ r .len ≡ 0 ⌝ }
     {
@@ -34,7 +34,7 @@ impl Line {
         }
     }
 
-    pub fn push(&mut self, byte: u8)
+    pub(crate) fn push(&mut self, byte: u8)
         requires { ⌜ now self .len < 32 ⌝ }
         ensures text { λ _. ⌜ said (now (self .exit)) ≡ said (now (self .entry)) ++ byte ∷ [] ⌝ }
         ensures size { λ _. ⌜ now (self .exit) .len ≡ now (self .entry) .len + 1 ⌝ }
@@ -44,7 +44,7 @@ impl Line {
         self.len += 1;
     }
 
-    pub fn push_all(&mut self, text: &[u8])
+    pub(crate) fn push_all(&mut self, text: &[u8])
         requires { ⌜ now self .len + length (now text) ≤ 32 ⌝ }
         ensures text { λ _. ⌜ said (now (self .exit)) ≡ said (now (self .entry)) ++ now (text .entry) ⌝ }
         ensures size { λ _. ⌜ now (self .exit) .len ≡ now (self .entry) .len + length (now (text .entry)) ⌝ }
@@ -55,7 +55,7 @@ impl Line {
     }
 
     // The digits of a number, the highest first. Any number has at most twenty.
-    pub fn push_decimal(&mut self, number: usize)
+    pub(crate) fn push_decimal(&mut self, number: usize)
         requires { ⌜ now self .len + 20 ≤ 32 ⌝ }
         ensures text { λ _. ⌜ said (now (self .exit)) ≡ said (now (self .entry)) ++ decimal number ⌝ }
         ensures size { λ _. ⌜ now (self .exit) .len ≡ now (self .entry) .len + length (decimal number) ⌝ }
@@ -67,7 +67,7 @@ impl Line {
         self.push(last_digit(number));
     }
 
-    pub fn text(&self) -> &[u8]
+    pub(crate) fn text(&self) -> &[u8]
         requires { ⌜ now self .len ≤ 32 ⌝ }
         ensures { λ r. ⌜ now r ≡ said (now (self .entry)) ⌝ }
     {
