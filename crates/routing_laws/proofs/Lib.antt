@@ -1,9 +1,12 @@
+pub mod Channels
 pub mod Compass
 pub mod Filling
 pub mod Listing
 pub mod Nearest
+pub mod Nearing
 pub mod Planes
 pub mod Planning
+pub mod Pointing
 pub mod Register
 pub mod Safe
 pub mod Ties
