@@ -1,6 +1,7 @@
 pub mod Channels
 pub mod Compass
 pub mod Filling
+pub mod Lawful
 pub mod Listing
 pub mod Nearest
 pub mod Nearing

@@ -1,10 +1,10 @@
 -- Steps in a needed direction: each leads one nearer, and no direction is needed anew.
-use mathlib.Core.Path.{_≡_, refl, ap, _∙_}
-use mathlib.Core.Bool.{Bool, true, false}
-use mathlib.Core.Logic.{_⊎_, inl, inr, ⊎-elim}
-use Prim.Native.Nat.{ℕ, min, _+_, _-_, _≤_, _<_}
+use mathlib.Core.Path.{_≡_, refl}
+use mathlib.Core.Bool.{true, false}
+use mathlib.Core.Logic.{⊎-elim}
+use Prim.Native.Nat.{ℕ, _+_, _-_, _≤_, _<_}
 use native.Mathlib.Omega.{arith}
-use lib.Dec.{eqb, ltb}
+use lib.Dec.{eqb}
 use Rattle.std.proofs.shelf.Tests.{and-from, and-parts, cases-bool, cases-eq, cases-lt, cond-both, cond-false, cond-true, eq-eqb, eqb-true, lt-ltb, ltb-true}
 use Rattle.mesh.specs.declared.compass.Direction.{Direction}
 use Rattle.mesh.specs.declared.compass.Direction.the-variants.{North, East, South, West}

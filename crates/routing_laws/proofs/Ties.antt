@@ -70,13 +70,13 @@ module _ (o : TurnOrder) (s : Directions) where
   rank-of : (d : Direction) → has d s ≡ true → rank o s d ≡ set-of o d
   rank-of d h = cond-true (has d s) (set-of o d) 2 h
 
-  late-only : leb 1 (lowest o s) ≡ true → (d : Direction) → has d s ≡ true → set-of o d ≡ 1
+  pub late-only : leb 1 (lowest o s) ≡ true → (d : Direction) → has d s ≡ true → set-of o d ≡ 1
   late-only t North h = omega (arith, leb-true 1 (lowest o s) t, rank-of North h, o .«north_most»)
   late-only t East h = omega (arith, leb-true 1 (lowest o s) t, rank-of East h, o .«east_most»)
   late-only t South h = omega (arith, leb-true 1 (lowest o s) t, rank-of South h, o .«south_most»)
   late-only t West h = omega (arith, leb-true 1 (lowest o s) t, rank-of West h, o .«west_most»)
 
-  only-late : ((d : Direction) → has d s ≡ true → set-of o d ≡ 1) → leb 1 (lowest o s) ≡ true
+  pub only-late : ((d : Direction) → has d s ≡ true → set-of o d ≡ 1) → leb 1 (lowest o s) ≡ true
   only-late each =
       let late : (d : Direction) → 1 ≤ rank o s d = λ d. cond-both (has d s) (set-of o d) 2 (λ n. 1 ≤ n) (λ h. omega (arith, each d h)) (λ _. omega arith) in
       le-leb 1 (lowest o s) (omega (arith, late North, late East, late South, late West))
