@@ -42,7 +42,7 @@ module _ {p q t : Place} (n : Nearer p q t) (e : Place) where
 place-here : (w h : ℕ) → 0 < w → 0 < h → (p : Place) → Inside w h p → getD (places w h) (cell w h 0 p) origin ≡ p
 place-here w h some-columns some-rows p i = place-of (λ _. 0) w h (cell w h 0 p) (cell-below w h some-columns some-rows p i) ∙ place-cell w h some-columns some-rows 0 p i
 
--- without elevators
+-- without elevators any filling is lawful
 pub none-lawful : (o : TurnOrder) (w h : ℕ) (filling : List ℕ) → pointing-lawful o w h [] filling
 none-lawful o w h filling l = absurd (omega arith)
 
@@ -60,6 +60,7 @@ module _ (es : List Place) where
       let found = last-nearest-found {es = es} {p = p} some in
       sym (found .2) ∙ last-nearest-is (last-stays (subst (Nearer p q) (sym (found .2)) n) (found .1))
 
+-- MD-safe: a step keeps the target, so that the needed directions only get fewer
 pub safe-lawful : (o : TurnOrder) (w h : ℕ) (es : List Place) → 0 < w → 0 < h → pointing-lawful o w h es (safe-half w h es)
 safe-lawful o w h es some-columns some-rows some = record {
   target = λ p. last-nearest p es;
@@ -115,6 +116,7 @@ module _ {C : Type 0} (position : C → Asked → ℕ) (after : C → Asked → 
       omega (arith, parts .1, set-most o d))
       (cases-lt (lowest o (toward p e)) 1)
 
+  -- random-offline, whatever a chooser replies, so long as it is one of the candidates
   pub tie-lawful : (t : Task) (c : C) → 0 < t .width → 0 < t .height → pointing-lawful o (t .width) (t .height) (t .elevators) (tie-half position after o t c)
   tie-lawful t c some-columns some-rows some =
       let w = t .width in

@@ -36,6 +36,7 @@ corners : (w h : ℕ) (p q : Place) → Inside w h p → Inside w h q → distan
 corners w h p q i j = omega arith
 
 module _ {o : TurnOrder} {P : Plane} {trip : Trip} {destination : Place} (a : Aim o P trip destination) where
+  -- what the guide permits is what the order allows of the directions towards the goal
   allowed : (p : Place) (side : Option Direction) (d : Direction) → Inside (P .width) (P .height) p → Permits P trip destination p side d → allows o (toward p (a .goal p)) d ≡ true
   allowed p side d i t = sym (has-permitted o (toward p (a .goal p)) d) ∙ sym (ap (has d) (a .replies p side i)) ∙ t
 
@@ -56,13 +57,14 @@ module _ {o : TurnOrder} {P : Plane} {trip : Trip} {destination : Place} (a : Ai
   chain-inside (start i) = i
   chain-inside (move c short-of d t n i) = i
 
-  -- moves made and moves left
+  -- moves made and moves left never add up to more than from corner to corner
   chain-left : {p : Place} {side : Option Direction} {n : ℕ} → Chain P trip destination p side n → n + distance p (a .goal p) + 2 ≤ P .width + P .height
   chain-left {p} (start i) = omega (arith, corners (P .width) (P .height) p (a .goal p) i (a .inside p i))
   chain-left (move {p} {q} {side} c short-of d t n j) =
       let i = chain-inside c in
       omega (arith, chain-left c, falls p q d i j (allowed p side d i t) n)
 
+  -- the rules, of one trip
   aim-short : (p : Place) (side : Option Direction) (n : ℕ) → Chain P trip destination p side n → n ≤ longest (P .width) (P .height)
   aim-short p side n c = omega (arith, chain-left c)
 
@@ -89,6 +91,7 @@ module _ {o : TurnOrder} {P : Plane} {trip : Trip} {destination : Place} (a : Ai
       channel-rises o (P .width) (P .height) p q d e i j step (λ m. no-return p q d e i j t′ u′ step m) grows
 
 module _ (o : TurnOrder) (w h : ℕ) (es : List Place) (filling : List ℕ) where
+  -- a plane filled for the pointing guide
   abbrev pub guided : Plane
   guided = record { width = w; height = h; elevators = es; filling = filling; reply = pointing-reply o }
 
@@ -114,6 +117,7 @@ module _ (o : TurnOrder) (w h : ℕ) (es : List Place) (filling : List ℕ) wher
     keeps = f .keeps;
   }
 
+  -- a lawful filling keeps the rules, with the channels numbered by the turn order alone
   pub pointing-rules : 0 < w → 0 < h → ((e : Place) → Has es e → Inside w h e) → pointing-lawful o w h es filling → Rules guided
   pointing-rules _ _ within lawful = record {
     number = channel o w h;
