@@ -1,7 +1,7 @@
 // How turn orders are made.
 ghost use mathlib.Core.Path.{_≡_};
 ghost use mathlib.Core.Bool.{cond};
-ghost use Rattle.mesh.specs.Orders.{Decided, lowest};
+ghost use Rattle.mesh.specs.Orders.{Decided, lowest, permitted, xy};
 use crate::compass::Directions;
 use crate::refusals::Refusal;
 use crate::turns::TurnOrder;
@@ -42,5 +42,25 @@ impl TurnOrder {
         let first = rank(needed.north, self.north).min(rank(needed.east, self.east));
         let second = rank(needed.south, self.south).min(rank(needed.west, self.west));
         first.min(second)
+    }
+
+    // Of the needed directions, those in the lowest set that holds any of them.
+    pub fn permits(self, needed: Directions) -> Directions
+        ensures { λ r. ⌜ r ≡ permitted self needed ⌝ }
+    {
+        let lowest = self.lowest(needed);
+        Directions {
+            north: needed.north & (self.north == lowest),
+            east: needed.east & (self.east == lowest),
+            south: needed.south & (self.south == lowest),
+            west: needed.west & (self.west == lowest),
+        }
+    }
+
+    // XY: East and West come first.
+    pub fn xy() -> TurnOrder
+        ensures { λ r. ⌜ r ≡ xy ⌝ }
+    {
+        TurnOrder { north: 1, east: 0, south: 1, west: 0 }
     }
 }

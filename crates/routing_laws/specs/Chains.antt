@@ -13,6 +13,7 @@ use Rattle.mesh.specs.declared.compass.Directions.{Directions}
 use Rattle.mesh.specs.declared.compass.Trip.{Trip}
 use Rattle.mesh.specs.declared.compass.Trip.the-variants.{Seeking, Bound}
 use Rattle.mesh.specs.declared.grid.Place.{Place}
+use Rattle.mesh.specs.declared.stack.Sizes.{Sizes}
 use Rattle.mesh.specs.Compass.{has}
 use Rattle.mesh.specs.Layout.{Inside, cell}
 
@@ -34,6 +35,13 @@ pub record Plane : Type 0 where
   pub elevators : List Place
   pub filling : List ℕ
   pub reply : Told → Directions
+
+abbrev pub plane-of : ℕ → ℕ → List Place → List ℕ → (Told → Directions) → Plane
+plane-of w h es filling reply = record { width = w; height = h; elevators = es; filling = filling; reply = reply }
+
+-- what a guide is told by a call
+abbrev pub tell : Sizes → Place → ℕ → Place → Option Direction → Trip → Told
+tell s p half destination side trip = record { width = s .width; height = s .height; place = p; half = half; destination = destination; side = side; trip = trip }
 
 -- the most moves of a chain: from one corner of the plane to the other
 abbrev pub longest : ℕ → ℕ → ℕ
