@@ -1,6 +1,8 @@
 pub mod Channels
 pub mod Compass
 pub mod Filling
+pub mod Headings
+pub mod Hopeful
 pub mod Lawful
 pub mod Listing
 pub mod Nearest
