@@ -10,7 +10,10 @@ apart-prop n e s w f g = λ i a b c. ⊥-prop (f a b c) (g a b c) i
 
 pub same-order : (a b : TurnOrder) → a .north ≡ b .north → a .east ≡ b .east → a .south ≡ b .south → a .west ≡ b .west → a ≡ b
 same-order a b n e s w = λ i. record {
-  north = n i; east = e i; south = s i; west = w i;
+  north = n i;
+  east = e i;
+  south = s i;
+  west = w i;
   «north_most» = isProp→PathP (λ j. n j ≤ 1) (λ j. le-prop) (a .«north_most») (b .«north_most») i;
   «east_most» = isProp→PathP (λ j. e j ≤ 1) (λ j. le-prop) (a .«east_most») (b .«east_most») i;
   «south_most» = isProp→PathP (λ j. s j ≤ 1) (λ j. le-prop) (a .«south_most») (b .«south_most») i;

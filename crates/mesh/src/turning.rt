@@ -61,6 +61,11 @@ impl TurnOrder {
     pub fn xy() -> TurnOrder
         ensures { λ r. ⌜ r ≡ xy ⌝ }
     {
-        TurnOrder { north: 1, east: 0, south: 1, west: 0 }
+        TurnOrder {
+            north: 1,
+            east: 0,
+            south: 1,
+            west: 0,
+        }
     }
 }

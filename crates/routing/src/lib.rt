@@ -1,10 +1,13 @@
-// The interfaces by which a buyer brings tie rules and fillers, and those that are supplied.
+// The interfaces by which a buyer brings tie rules, fillers and guides, and those that are supplied.
 mod choosing;
 mod filling;
+mod guiding;
 mod optimistic;
+mod pointing;
 mod register;
 mod rooms;
 mod safe;
+mod seeking;
 mod shifting;
 mod ties;
 
@@ -14,13 +17,17 @@ pub use choosing::FirstChooser;
 pub use choosing::Last;
 pub use choosing::LastChooser;
 pub use filling::Filler;
+pub use guiding::Guide;
 pub use optimistic::Optimistic;
 pub use optimistic::OptimisticFiller;
+pub use pointing::Pointing;
+pub use pointing::PointingGuide;
 pub use register::ShiftRegister;
 pub use rooms::MOST;
 pub use rooms::keep;
 pub use safe::MdSafe;
 pub use safe::MdSafeFiller;
+pub use seeking::OptimisticGuide;
 pub use shifting::ShiftRegisterChooser;
 pub use ties::RandomOffline;
 pub use ties::RandomOfflineFiller;

@@ -6,6 +6,7 @@ ghost use Rattle.routing_laws.specs.Filling.{put-halves};
 ghost use Rattle.routing_laws.specs.Optimistic.{Compass, compass, joined, open-half, sighted};
 use crate::choosing::Chooser;
 use crate::filling::Filler;
+use crate::seeking::OptimisticGuide;
 use mesh::Directions;
 use mesh::Place;
 use mesh::Sizes;
@@ -73,6 +74,14 @@ pub impl<C: Chooser> Filler<C> for Optimistic as OptimisticFiller {
     ghost half = { λ _ t _. open-half (t .width) (t .height) (t .elevators) };
 
     ghost next = { λ _ _ c. c };
+
+    type Guide = Optimistic;
+
+    ghost partner = { λ f. f };
+
+    fn guide(&self) -> Optimistic {
+        *self
+    }
 
     fn fill(
         &self,

@@ -6,6 +6,8 @@ ghost use Rattle.routing_laws.specs.Filling.{put-halves};
 ghost use Rattle.routing_laws.specs.Nearest.{LastNearest, PointsSafely, pointing, safe-half};
 use crate::choosing::Chooser;
 use crate::filling::Filler;
+use crate::pointing::Pointing;
+use crate::pointing::PointingGuide;
 use mesh::Directions;
 use mesh::Place;
 use mesh::Sizes;
@@ -60,6 +62,14 @@ pub impl<C: Chooser> Filler<C> for MdSafe as MdSafeFiller {
     ghost half = { λ _ t _. safe-half (t .width) (t .height) (t .elevators) };
 
     ghost next = { λ _ _ c. c };
+
+    type Guide = Pointing;
+
+    ghost partner = { λ f. record { order = f .order } };
+
+    fn guide(&self) -> Pointing {
+        Pointing { order: self.order }
+    }
 
     fn fill(
         &self,

@@ -13,6 +13,8 @@ ghost use Rattle.routing_laws.specs.Filling.{put-halves, task};
 ghost use Rattle.routing_laws.specs.Ties.{Candidates, candidate, candidates, least, onward, target, tie-half, tie-next};
 use crate::choosing::Chooser;
 use crate::filling::Filler;
+use crate::pointing::Pointing;
+use crate::pointing::PointingGuide;
 use crate::rooms::MOST;
 use crate::rooms::keep;
 use crate::safe::pointing;
@@ -142,6 +144,14 @@ pub impl<C: Chooser> Filler<C> for RandomOffline as RandomOfflineFiller {
     ghost half = { λ f t c. tie-half (C·Chooser .position) (C·Chooser .after) (f .order) t c };
 
     ghost next = { λ f t c. tie-next (C·Chooser .position) (C·Chooser .after) (f .order) t c };
+
+    type Guide = Pointing;
+
+    ghost partner = { λ f. record { order = f .order } };
+
+    fn guide(&self) -> Pointing {
+        Pointing { order: self.order }
+    }
 
     fn fill(
         &self,

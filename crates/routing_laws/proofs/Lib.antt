@@ -2,7 +2,6 @@ pub mod Channels
 pub mod Compass
 pub mod Filling
 pub mod Headings
-pub mod Hopeful
 pub mod Lawful
 pub mod Listing
 pub mod Nearest
@@ -12,4 +11,5 @@ pub mod Planning
 pub mod Pointing
 pub mod Register
 pub mod Safe
+pub mod Seeking
 pub mod Ties

@@ -18,7 +18,7 @@ use Rattle.mesh.specs.Compass.{distance, has, toward}
 use Rattle.mesh.specs.Halves.{pack, unpack}
 use Rattle.mesh.specs.Layout.{Inside}
 use Rattle.mesh.specs.Orders.{allows, lowest, permitted, xy}
-use Rattle.routing_laws.specs.Chains.{Next, Told, half-at}
+use Rattle.routing_laws.specs.Chains.{Next, Rules, Told, half-at, plane-of}
 use Rattle.routing_laws.specs.Optimistic.{compass}
 
 -- the directions that a pointing guide needs: the half-byte's when seeking, those towards the destination when bound
@@ -48,6 +48,10 @@ only North = record { north = true; east = false; south = false; west = false }
 only East = record { north = false; east = true; south = false; west = false }
 only South = record { north = false; east = false; south = true; west = false }
 only West = record { north = false; east = false; south = false; west = true }
+
+-- the directions that two sets share
+abbrev pub both : Directions → Directions → Directions
+both s t = record { north = s .north && t .north; east = s .east && t .east; south = s .south && t .south; west = s .west && t .west }
 
 -- the optimistic guide when seeking, from the half-byte's directions, the destination's, and the side: the first port
 -- that applies
@@ -85,3 +89,14 @@ optimistic-reply t = optimistic-by (t .trip) t
 -- lawful for the optimistic guide: each half-byte says where elevators lie
 abbrev pub optimistic-lawful : ℕ → ℕ → List Place → List ℕ → Type 0
 optimistic-lawful w h es filling = 0 < length es → (p : Place) → Inside w h p → half-at w h filling p ≡ pack (compass es p)
+
+-- the theorems: under a lawful filling the guide keeps the rules, for all sizes, elevators, fillings and orders
+abbrev pub PointingKeeps : Type 0
+PointingKeeps =
+    (o : TurnOrder) (w h : ℕ) (es : List Place) (filling : List ℕ) → 0 < w → 0 < h → ((e : Place) → Has es e → Inside w h e)
+    → pointing-lawful o w h es filling → Rules (plane-of w h es filling (pointing-reply o))
+
+abbrev pub OptimisticKeeps : Type 0
+OptimisticKeeps =
+    (w h : ℕ) (es : List Place) (filling : List ℕ) → 0 < w → 0 < h → ((e : Place) → Has es e → Inside w h e)
+    → optimistic-lawful w h es filling → Rules (plane-of w h es filling optimistic-reply)

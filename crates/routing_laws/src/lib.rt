@@ -1,2 +1,6 @@
 // What fillers, choosers and guides mean, and the theorems about them. There is no code here to speak of: the
 // lemmas stand apart from the code that cites them, so that the code's own crates stay quick to check.
+mod theorems;
+
+pub use theorems::optimistic_keeps_the_rules;
+pub use theorems::pointing_keeps_the_rules;
