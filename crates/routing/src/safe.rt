@@ -3,7 +3,7 @@ ghost use mathlib.Core.Path.{_≡_};
 ghost use Prim.Native.Nat.{_*_, _≤_, _<_};
 ghost use lib.ListN.{length};
 ghost use Rattle.routing_laws.specs.Filling.{put-halves};
-ghost use Rattle.routing_laws.specs.Nearest.{LastNearest, PointsSafely, pointing, safe-half};
+ghost use Rattle.routing_laws.specs.Nearest.{LastNearest, pointing, safe-half};
 use crate::choosing::Chooser;
 use crate::filling::Filler;
 use crate::pointing::Pointing;
@@ -48,8 +48,7 @@ pub(crate) fn pointing(place: Place, elevator: Place) -> u8
 fn point(sizes: Sizes, way: Way, elevators: &[Place], bytes: &mut [u8])
     requires some { ⌜ 0 < length (now elevators) ⌝ }
     requires whole { ⌜ length (now bytes) ≡ sizes .width * sizes .height ⌝ }
-    ensures writes { λ _. ⌜ now (bytes .exit) ≡ put-halves way (now (bytes .entry)) (safe-half (sizes .width) (sizes .height) (now (elevators .entry))) ⌝ }
-    ensures points { λ _. ⌜ PointsSafely (sizes .width) (sizes .height) (now (elevators .entry)) way (now (bytes .exit)) ⌝ }
+    ensures { λ _. ⌜ now (bytes .exit) ≡ put-halves way (now (bytes .entry)) (safe-half (sizes .width) (sizes .height) (now (elevators .entry))) ⌝ }
 {
     for (i, byte) in bytes.iter_mut().enumerate() {
         let place = sizes.place_at(i);
@@ -79,14 +78,7 @@ pub impl<C: Chooser> Filler<C> for MdSafe as MdSafeFiller {
         elevators: &[Place],
         chooser: &mut C,
         bytes: &mut [u8],
-    )
-        requires some { ⌜ 0 < length (now elevators) ⌝ }
-        requires few { ⌜ length (now elevators) ≤ sizes .width * sizes .height ⌝ }
-        requires whole { ⌜ length (now bytes) ≡ sizes .width * sizes .height ⌝ }
-        ensures writes { λ _. ⌜ now (bytes .exit) ≡ put-halves way (now (bytes .entry)) (safe-half (sizes .width) (sizes .height) (now (elevators .entry))) ⌝ }
-        ensures goes { λ _. ⌜ now (chooser .exit) ≡ now (chooser .entry) ⌝ }
-        ensures points { λ _. ⌜ PointsSafely (sizes .width) (sizes .height) (now (elevators .entry)) way (now (bytes .exit)) ⌝ }
-    {
+    ) {
         point(sizes, way, elevators, bytes);
     }
 }

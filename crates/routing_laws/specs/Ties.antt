@@ -48,6 +48,10 @@ pub record Candidates (o : TurnOrder) (p : Place) (es cs : List Place) : Type 0 
   pub all-late : (e : Place) → Nearest es p e → LateOnly o p e → Has cs e
   pub all-near : ((e : Place) → Nearest es p e → LateOnly o p e → ⊥) → (e : Place) → Nearest es p e → Has cs e
 
+-- the theorem: the candidates are those
+abbrev pub CandidatesExact : Type 0
+CandidatesExact = (o : TurnOrder) (p : Place) (es : List Place) → 0 < length es → Candidates o p es (candidates o p es)
+
 -- a chooser is asked where two or more candidates remain
 abbrev pub asks : List Place → Bool
 asks cs = ltb 1 (length cs)

@@ -4,7 +4,7 @@ use lib.ListN.{getD}
 use Rattle.mesh.specs.Halves.{with-half}
 use Rattle.routing_laws.specs.Nearest.{last-nearest, pointing}
 use Rattle.routing_laws.proofs.Nearest.{last-nearest-is}
-use Rattle.routing_laws.proofs.Safe.{alone-all, alone-more, alone-none, points-safely}
+use Rattle.routing_laws.proofs.Safe.{alone-all, alone-more, alone-none}
 use Rattle.routing.proofs.safe.point.Needs as need
 
 pub loop-i-holds : need.loop-i-holds
@@ -17,9 +17,4 @@ loop-i-again c =
     alone-more (c .loop-i .inv) (omega arith) (c .with-half .result) (c .with-half .ensures ∙ ap (with-half (c .args .way) (getD (c .loop-i .bytes) (c .loop-i .i) 0)) points)
 
 pub returns : need.returns
-returns c =
-    let whole = alone-all (c .loop-i .inv) (omega arith) in
-    record {
-      writes = whole;
-      points = rw whole (points-safely (c .args .sizes .width) (c .args .sizes .height) (c .args .elevators .now) (c .args .way) (c .args .bytes .now) (c .pre .some) (c .pre .whole));
-    }
+returns c = alone-all (c .loop-i .inv) (omega arith)
