@@ -13,10 +13,9 @@ use crate::bytes::sizes_body;
 use description_laws::Record;
 use description_laws::RecordFault;
 use description_laws::RecordFaultFromByte;
+use mesh::LAST_SET;
 use mesh::Refusal;
 use mesh::Sizes;
-
-const LAST_SET: u8 = 1;
 
 const LAST_COLUMN: u8 = 23;
 

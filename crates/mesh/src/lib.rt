@@ -20,4 +20,5 @@ pub use refusals::Refusal;
 pub use refusals::RefusalDebug;
 pub use refusals::RefusalPartialEq;
 pub use stack::Sizes;
+pub use turning::LAST_SET;
 pub use turns::TurnOrder;

@@ -7,7 +7,7 @@ use crate::refusals::Refusal;
 use crate::turns::TurnOrder;
 
 // Sets are numbered from 0 to this.
-const LAST_SET: u8 = 1;
+pub const LAST_SET: u8 = 1;
 
 // The set of a direction, where it is needed.
 fn rank(needed: bool, set: u8) -> u8
