@@ -26,7 +26,7 @@ pub trait Filler<C: Chooser> {
     law small: { (f : Self) (t : Task) (c : C) → All (λ v. v < 16) (half f t c) };
 
     // the guide for which its fillings are lawful
-    type Guide: Guide;
+    type Guide: Guide + Drop;
 
     ghost partner: { Self → Self·Guide };
 

@@ -7,17 +7,18 @@ use Prim.Native.Nat.{ℕ, zero, suc, _+_, _-_, _*_, _/_, _%_, _≤_, _<_}
 use native.Mathlib.Numerals.{add-one}
 use native.Mathlib.Omega.{arith}
 use lib.Dec.{ltb}
-use lib.ListN.{length, getD, replicate, length-replicate}
+use lib.ListN.{length, getD, drop, length-append, length-drop, length-map, length-replicate, replicate}
 use Rattle.std.specs.shelf.Lists.{All}
-use Rattle.std.proofs.shelf.Bits.{div-add-mod', div-below, mod-below}
-use Rattle.std.proofs.shelf.Counted.{fill-by-all}
+use Rattle.std.proofs.shelf.Bits.{div-add-mod', div-below, div-mul-add, mod-below, mod-mul-add}
+use Rattle.std.proofs.shelf.Counted.{fill-by-all, getD-map-counting, length-map-counting}
 use Rattle.std.proofs.shelf.Elements.{all-getD}
-use Rattle.std.proofs.shelf.Lists.{getD-replicate}
-use Rattle.std.proofs.shelf.Tests.{cases-eq, cond-false, cond-true, lt-ltb, le-ltb}
+use Rattle.std.proofs.shelf.Lists.{ext-getD, getD-append-left, getD-drop, getD-map, getD-past, getD-replicate, getD-take, length-take-le}
+use Rattle.std.proofs.shelf.Tests.{cases-eq, cases-lt, cond-both, cond-false, cond-true, le-ltb, lt-ltb}
 use Rattle.std.proofs.shelf.Ways.{tells}
+use Rattle.mesh.specs.declared.compass.Way.{Way}
 use Rattle.mesh.specs.declared.compass.Way.the-variants.{Up, Down}
-use Rattle.mesh.specs.Halves.{with-half}
-use Rattle.routing_laws.specs.Filling.{Task, put-plane}
+use Rattle.mesh.specs.Halves.{half, with-half}
+use Rattle.routing_laws.specs.Filling.{Task, plane, put-plane}
 use Rattle.routing_laws.specs.Plan.{Job, area, begun, between, down-task, gaps, location, planned, routers, up-task}
 use Rattle.routing_laws.proofs.Planes.{length-put-plane, plane-order, put-plane-here, put-plane-there}
 
@@ -161,3 +162,54 @@ module _ {C : Type 0} (j : Job C) (c : C) where
           (λ ne. ⊎-elim (λ (e : z ≡ g + 1). rw e (upper i m)) (λ ne′. else z i l m ne ne′) (cases-eq z (g + 1)))
           (cases-eq z g);
     }
+
+-- what the halves of a planned stack are: those that the filler wrote
+module _ {C : Type 0} (j : Job C) (c : C) (fit : Fitting j) (some : 0 < area j) (rest : List ℕ) where
+  abbrev whole : List ℕ
+  whole = planned j c ++ rest
+
+  planned-long : length (planned j c) ≡ routers j
+  planned-long = length-map-counting (λ i. location j c (gaps j) (i / area j) (i % area j)) 0 (routers j)
+
+  planned-at : (z i : ℕ) → z < j .sizes .planes → i < area j → getD whole (z * area j + i) 0 ≡ location j c (gaps j) z i
+  planned-at z i l m =
+      let here : z * area j + i < routers j = omega (arith, plane-order (area j) z (j .sizes .planes) l) in
+      getD-append-left (planned j c) rest 0 (z * area j + i) (omega (arith, planned-long))
+      ∙ getD-map-counting (λ k. location j c (gaps j) (k / area j) (k % area j)) 0 (routers j) (z * area j + i) (z * area j + i) 0 here (omega arith)
+      ∙ (λ k. location j c (gaps j) (div-mul-add z (area j) i m k) (mod-mul-add z (area j) i m k))
+
+  -- one half of plane z, once its values are known
+  halves-are : (way : Way) (z : ℕ) (halves : List ℕ) → z < j .sizes .planes → length halves ≡ area j
+      → ((i : ℕ) → i < area j → half way (location j c (gaps j) z i) ≡ getD halves i 0) → map (half way) (plane (area j) z whole) ≡ halves
+  halves-are way z halves l e each =
+      let fits : z * area j + area j ≤ length whole = omega (arith, plane-order (area j) z (j .sizes .planes) l, length-append (planned j c) rest, planned-long) in
+      let long : length (plane (area j) z whole) ≡ area j = length-take-le (area j) (drop (z * area j) whole) (simp length-drop (omega arith)) in
+      ext-getD 0 (map (half way) (plane (area j) z whole)) halves (length-map (plane (area j) z whole) (half way) ∙ long ∙ sym e)
+      (λ i m.
+      let here : i < area j = omega (arith, length-map (plane (area j) z whole) (half way)) in
+      getD-map (half way) (plane (area j) z whole) i 0 0 (omega arith)
+      ∙ ap (half way) (getD-take (area j) (drop (z * area j) whole) i 0 here ∙ getD-drop (z * area j) whole i 0 ∙ planned-at z i l here)
+      ∙ each i here)
+
+  small-at : (t : Task) (d : C) (i : ℕ) → getD (j .half t d) i 0 < 16
+  small-at t d i =
+      ⊎-elim
+      (λ (l : i < length (j .half t d)). all-getD (λ v. v < 16) (j .half t d) i 0 l (fit .small t d))
+      (λ (l : length (j .half t d) ≤ i). omega (arith, getD-past (j .half t d) i 0 l))
+      (cases-lt i (length (j .half t d)))
+
+  low-small : (z i : ℕ) → low (up-at j c) (down-at j c) (gaps j) z i < 16
+  low-small z i = cond-both (ltb z (gaps j)) (up-at j c z i) 0 (λ n. n < 16) (λ _. small-at (up-task j z) (begun j c z) i) (λ _. omega arith)
+
+  pub planned-up : (g : ℕ) → g < gaps j → map (half Up) (plane (area j) g whole) ≡ j .half (up-task j g) (begun j c g)
+  planned-up g l =
+      halves-are Up g (j .half (up-task j g) (begun j c g)) (omega arith) (fit .long (up-task j g) (begun j c g))
+      (λ i m. let small = low-small g i in let is : low (up-at j c) (down-at j c) (gaps j) g i ≡ up-at j c g i = cond-true (ltb g (gaps j)) (up-at j c g i) 0 (lt-ltb g (gaps j) l) in omega arith)
+
+  pub planned-down : (g : ℕ) → g < gaps j → map (half Down) (plane (area j) (g + 1) whole) ≡ j .half (down-task j g) (between j c g)
+  planned-down g l =
+      halves-are Down (g + 1) (j .half (down-task j g) (between j c g)) (omega arith) (fit .long (down-task j g) (between j c g))
+      (λ i m.
+      let small = low-small (suc g) i in
+      let is : high (up-at j c) (down-at j c) (gaps j) (suc g) i ≡ down-at j c g i = cond-true (ltb g (gaps j)) (down-at j c g i) 0 (lt-ltb g (gaps j) l) in
+      ap (λ z. half Down (location j c (gaps j) z i)) (add-one g) ∙ omega arith)

@@ -1,0 +1,9 @@
+pub mod Index
+pub mod Accepting
+pub mod Writing
+pub mod Riding
+pub mod Keeping
+pub mod Lasting
+pub mod Standing
+pub mod Certified
+pub mod Following
