@@ -1,9 +1,9 @@
 -- Numbers of buffers and ports are taken back, and the record numbers of a stack fill its table, each once.
 use mathlib.Core.Path.{_≡_, refl, sym, ap, _∙_}
-use Prim.Native.Nat.{ℕ, zero, suc, _+_, _*_, _/_, _%_, _<_}
+use Prim.Native.Nat.{ℕ, zero, suc, _+_, _*_, _/_, _%_, _≤_, _<_}
 use native.Mathlib.Omega.{arith}
 use lib.Dec.{lit<}
-use Rattle.std.proofs.shelf.Bits.{div-add-mod', div-below, div-mul-add, mod-below, mod-mul-add, mul-add-lt}
+use Rattle.std.proofs.shelf.Bits.{div-add-mod', div-below, div-mul-add, mod-below, mod-mul-add, mul-add-lt, mul-le}
 use Rattle.mesh.specs.declared.compass.Direction.the-variants.{North, East, South, West}
 use Rattle.mesh.specs.declared.compass.Way.the-variants.{Up, Down}
 use Rattle.mesh.specs.declared.grid.Router.{Router}
@@ -106,6 +106,14 @@ module _ (s : Sizes) where
   number-below : (r : Router) (b : Buffer) → InStack s r → record-number s r b < table-size s
   unfolding record-number table-size
   number-below r b i = omega (arith, buffer-below b, cell-below (s .width) (s .height) (s .planes) r (i .column) (i .row) (i .plane))
+
+  -- the largest table: 8 planes of 24 columns and 24 rows
+  pub size-most : table-size s ≤ 50688
+  unfolding table-size
+  size-most =
+      let area : s .width * s .height ≤ 24 * 24 = mul-le (s .width) (s .height) 24 24 (omega arith) (omega arith) in
+      let all : s .planes * (s .width * s .height) ≤ 8 * 576 = mul-le (s .planes) (s .width * s .height) 8 576 (omega arith) area in
+      omega arith
 
   number-apart : (r q : Router) (b c : Buffer) → InStack s r → InStack s q → record-number s r b ≡ record-number s q c → (r ≡ q) × (b ≡ c)
   unfolding record-number

@@ -26,9 +26,9 @@ use Rattle.channel_laws.specs.declared.calls.Call.the-variants.{Inject, Move, 
 use Rattle.channel_laws.specs.declared.records.Record.{Record}
 use Rattle.channel_laws.specs.Buffers.{buffer-of, port-of}
 use Rattle.channel_laws.specs.Table.{InStack, State, empty, is-empty, kept, record-number, table-size, with-table}
-use Rattle.channel_laws.specs.Ports.{has-port, neighbour, permitted-ports, same-router, vertical}
+use Rattle.channel_laws.specs.Ports.{has-port, neighbour, permitted-ports, same-router, way-only}
 use Rattle.channel_laws.specs.Calls.{carried, collect-refusal, entered-by, fresh, inject-refusal, injected, move-refusal, moved, outcome, taken}
-use Rattle.channel_laws.specs.Runs.{Event, Packet, Sits, accepted, collections-of, enters, event, hands-out, injections, injections-of, injects-it, moves, packet, packet-of, same-packet, stays}
+use Rattle.channel_laws.specs.Runs.{Event, Packet, Sits, accepted, collections-of, enters, event, hands-out, injections, injections-of, injects-it, carries, packet, packet-of, same-packet, stays}
 use Rattle.channel_laws.specs.Certificate.{Guided}
 use Rattle.channel_laws.proofs.Index.{numbered}
 use Rattle.channel_laws.proofs.Accepting.{CanCollect, CanInject, CanMove, can-collect, can-inject, can-move, decided-both}
@@ -47,7 +47,7 @@ and-true true = refl
 and-true false = refl
 
 -- the one port of a way
-vertical-only : (p : Port) (way : Way) → has-port p (vertical way) ≡ true → p ≡ Vertical way
+vertical-only : (p : Port) (way : Way) → has-port p (way-only way) ≡ true → p ≡ Vertical way
 vertical-only (Planar North) Up e = absurd (false≢true e)
 vertical-only (Planar East) Up e = absurd (false≢true e)
 vertical-only (Planar South) Up e = absurd (false≢true e)
@@ -202,7 +202,7 @@ module _ (reply : Told → Directions) (s : State) (g : Guided reply s) (fits : 
         record {
           long = simp length-set (q .long);
           sound = put-each (s .sizes) between between-long (Sound reply s) _ _ (carried taking) (on .in-stack′) (λ _. on .sound′) (λ r′ b′ j _ full. sound-between r′ b′ j full);
-          traced = put-each (s .sizes) between between-long (Traced (event (Move r n m) Moved ∷ es)) _ _ (carried taking) (on .in-stack′) (λ _. (mine .0, moves n m refl (mine .1)))
+          traced = put-each (s .sizes) between between-long (Traced (event (Move r n m) Moved ∷ es)) _ _ (carried taking) (on .in-stack′) (λ _. (mine .0, carries n m refl (mine .1)))
               (λ r′ b′ j _ full. traced-between r′ b′ j full);
           counted = λ p.
               let a = sumBy-cons (λ e. cond (injects-it p (e .call) && accepted (e .answer)) 1 0) (event (Move r n m) Moved) es in
@@ -220,7 +220,7 @@ module _ (reply : Told → Directions) (s : State) (g : Guided reply s) (fits : 
       (λ x. (t, refl, good-refused t es _ x q))
   step t es q (Move r n m) =
       decided-both (λ o. (t′ : List Record) × (o .after ≡ with-table s t′) × Good t′ (event (Move r n m) (o .answer) ∷ es)) (move-refusal reply (with-table s t) r n m) Moved
-      (moved reply (with-table s t) r (buffer-of n) (port-of m)) (with-table s t)
+      (moved (with-table s t) r (buffer-of n) (port-of m)) (with-table s t)
       (λ e. (after-move t r n m (q .long) (can-move reply _ _ _ _ e), refl, good-moved t r n m (q .long) (can-move reply _ _ _ _ e) es q))
       (λ x. (t, refl, good-refused t es _ x q))
   step t es q (Collect r n) =

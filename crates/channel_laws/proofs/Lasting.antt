@@ -67,7 +67,7 @@ module _ (reply : Told → Directions) (s : State) (g : Guided reply s) (fits : 
       decided-both (Falls t (Inject source destination tag)) (inject-refusal (with-table s t) source destination) Injected (injected (with-table s t) source destination tag) (with-table s t)
       (λ e. omega (arith, inject-weigh reply s g fits t source destination tag (q .long) (can-inject _ _ _ e) left)) (λ x. omega arith)
   falls t es q (Move r n m) =
-      decided-both (Falls t (Move r n m)) (move-refusal reply (with-table s t) r n m) Moved (moved reply (with-table s t) r (buffer-of n) (port-of m)) (with-table s t)
+      decided-both (Falls t (Move r n m)) (move-refusal reply (with-table s t) r n m) Moved (moved (with-table s t) r (buffer-of n) (port-of m)) (with-table s t)
       (λ e.
       let c = can-move reply (with-table s t) r n m e in
       let on = leads-on reply s g fits t r n m (q .long) c es q in

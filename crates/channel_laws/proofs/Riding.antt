@@ -40,7 +40,7 @@ use Rattle.channel_laws.specs.declared.buffers.Port.the-variants.{Planar, Vert
 use Rattle.channel_laws.specs.declared.records.Record.{Record}
 use Rattle.channel_laws.specs.Buffers.{entered, network}
 use Rattle.channel_laws.specs.Table.{InStack, State, place-of, router-at}
-use Rattle.channel_laws.specs.Ports.{beside, crossing-ports, gap-of, half-of, is-elevator, leads-out, neighbour, permitted-ports, planar, same-router, side-of, vertical, way-to}
+use Rattle.channel_laws.specs.Ports.{beside, crossing-ports, gap-of, half-of, is-elevator, leads-out, neighbour, permitted-ports, planar-only, same-router, side-of, way-only, way-to}
 use Rattle.channel_laws.specs.Calls.{carried, damaged, entered-by, fresh}
 use Rattle.channel_laws.specs.Certificate.{Guided, bare-plane, filled-plane, most-moves}
 use Rattle.channel_laws.proofs.Accepting.{in-stacked}
@@ -255,14 +255,14 @@ module _ (reply : Told → Directions) (s : State) (g : Guided reply s) (fits : 
   -- what a packet may do: nothing, at home; cross a gap, at an elevator; or what the guide replies, short of the end
   pub data Stage (r : Router) (b : Buffer) (x : Record) : Type 0 where
     home : same-router r (x .destination) ≡ true → Stage r b x
-    across : same-router r (x .destination) ≡ false → (r .z ≡ x .destination .z → ⊥) → permitted-ports reply s r b x ≡ vertical (way-of (riding x)) → Stage r b x
+    across : same-router r (x .destination) ≡ false → (r .z ≡ x .destination .z → ⊥) → permitted-ports reply s r b x ≡ way-only (way-of (riding x)) → Stage r b x
     along : same-router r (x .destination) ≡ false
-        → permitted-ports reply s r b x ≡ planar (reply (told (plane-for reply s (way-of (riding x)) (r .z)) (trip-of r x) (place-of (x .destination)) (place-of r) (side-of b)))
+        → permitted-ports reply s r b x ≡ planar-only (reply (told (plane-for reply s (way-of (riding x)) (r .z)) (trip-of r x) (place-of (x .destination)) (place-of r) (side-of b)))
         → (Ended (plane-for reply s (way-of (riding x)) (r .z)) (trip-of r x) (place-of (x .destination)) (place-of r) → ⊥) → Stage r b x
 
   abbrev Along : Router → Buffer → Record → Trip → Type 0
   Along r b x t =
-      (permitted-ports reply s r b x ≡ planar (reply (told (plane-for reply s (way-of (riding x)) (r .z)) t (place-of (x .destination)) (place-of r) (side-of b))))
+      (permitted-ports reply s r b x ≡ planar-only (reply (told (plane-for reply s (way-of (riding x)) (r .z)) t (place-of (x .destination)) (place-of r) (side-of b))))
       × (Ended (plane-for reply s (way-of (riding x)) (r .z)) t (place-of (x .destination)) (place-of r) → ⊥)
 
   pub stage : (r : Router) (b : Buffer) (x : Record) → InStack (s .sizes) r → Sound reply s r b x → Stage r b x
@@ -282,7 +282,7 @@ module _ (reply : Told → Directions) (s : State) (g : Guided reply s) (fits : 
       seeks e f t =
           let gap-there = ahead r b x i q (eqb-false _ _ f) in (
             crossing e f ∙ cond-false _ _ _ t
-                ∙ ap (λ n. planar (reply (tell (s .sizes) (place-of r) n (place-of (x .destination)) (side-of b) Seeking))) (sym (half-read (way-of (riding x)) r i gap-there)),
+                ∙ ap (λ n. planar-only (reply (tell (s .sizes) (place-of r) n (place-of (x .destination)) (side-of b) Seeking))) (sym (half-read (way-of (riding x)) r i gap-there)),
             λ end. both-ways _ t (listed-is (way-of (riding x)) r i gap-there end),
           )
 

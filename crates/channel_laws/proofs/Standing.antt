@@ -32,7 +32,7 @@ use Rattle.channel_laws.specs.declared.calls.Call.the-variants.{Move, Collect}
 use Rattle.channel_laws.specs.declared.records.Record.{Record}
 use Rattle.channel_laws.specs.Buffers.{buffer-number, buffer-of, entered, port-number, port-of}
 use Rattle.channel_laws.specs.Table.{InStack, State, empty, is-empty, kept, packets, place-of, record-number, table-size, with-table}
-use Rattle.channel_laws.specs.Ports.{beside, has-port, leads-out, neighbour, permitted-ports, same-router, side-of, vertical}
+use Rattle.channel_laws.specs.Ports.{beside, has-port, leads-out, neighbour, permitted-ports, same-router, side-of, way-only}
 use Rattle.channel_laws.specs.Calls.{entered-by, outcome, short, collect-refusal, move-refusal, taken, moved}
 use Rattle.channel_laws.specs.Runs.{Event, accepted, works}
 use Rattle.channel_laws.specs.Certificate.{Guided}
@@ -252,7 +252,7 @@ module _ (reply : Told → Directions) (s : State) (g : Guided reply s) (fits : 
           let back-p = sym (port-back p) in (
             Move r k (port-number p),
             refl,
-            none-accepted (move-refusal reply (with-table s t) r k (port-number p)) Moved (moved reply (with-table s t) r (buffer-of k) (port-of (port-number p))) (with-table s t) refl (moves-on reply (with-table s t) r k (port-number p) record {
+            none-accepted (move-refusal reply (with-table s t) r k (port-number p)) Moved (moved (with-table s t) r (buffer-of k) (port-of (port-number p))) (with-table s t) refl (moves-on reply (with-table s t) r k (port-number p) record {
               long = enough;
               at = q .here;
               buffer = l;
@@ -270,7 +270,7 @@ module _ (reply : Told → Directions) (s : State) (g : Guided reply s) (fits : 
           must true wrong = refl
           must false wrong = absurd (wrong refl)
 
-      vertical-has : (way : Way) → has-port (Vertical way) (vertical way) ≡ true
+      vertical-has : (way : Way) → has-port (Vertical way) (way-only way) ≡ true
       vertical-has Up = refl
       vertical-has Down = refl
 

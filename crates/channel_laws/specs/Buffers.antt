@@ -22,15 +22,17 @@ side-number West = 1
 side-number North = 2
 side-number South = 3
 
+-- the side with a place in that order
 abbrev pub side-at : ℕ → Direction
 side-at n = cond (eqb n 0) East (cond (eqb n 1) West (cond (eqb n 2) North South))
 
--- how many buffers a router has, and how many ports
-abbrev pub buffers : ℕ
-buffers = 11
+-- how many buffers a router has
+abbrev pub buffer-count : ℕ
+buffer-count = 11
 
-abbrev pub ports : ℕ
-ports = 6
+-- how many ports a router has
+abbrev pub port-count : ℕ
+port-count = 6
 
 -- the number of a buffer: 0 Local, 1 to 4 the sides on network 0, 5 to 8 those on network 1, 9 Below, 10 Above
 abbrev pub buffer-number : Buffer → ℕ
@@ -61,11 +63,11 @@ port-of n = cond (ltb n 4) (Planar (side-at n)) (cond (eqb n 4) (Vertical Up) (V
 -- a buffer or a port is the one with its number, and a number below their count is that of its buffer or port
 pub record Coded : Type 0 where
   pub buffer-back : (b : Buffer) → buffer-of (buffer-number b) ≡ b
-  pub buffer-below : (b : Buffer) → buffer-number b < buffers
-  pub buffer-reached : (n : ℕ) → n < buffers → buffer-number (buffer-of n) ≡ n
+  pub buffer-below : (b : Buffer) → buffer-number b < buffer-count
+  pub buffer-reached : (n : ℕ) → n < buffer-count → buffer-number (buffer-of n) ≡ n
   pub port-back : (p : Port) → port-of (port-number p) ≡ p
-  pub port-below : (p : Port) → port-number p < ports
-  pub port-reached : (n : ℕ) → n < ports → port-number (port-of n) ≡ n
+  pub port-below : (p : Port) → port-number p < port-count
+  pub port-reached : (n : ℕ) → n < port-count → port-number (port-of n) ≡ n
 
 -- the network that a packet rides: 1 if its destination's plane is below its source's
 abbrev pub network : Router → Router → Network

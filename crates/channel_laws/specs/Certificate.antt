@@ -15,14 +15,12 @@ use Rattle.routing_laws.specs.Chains.{Plane, Rules, Told, longest, plane-of}
 use Rattle.routing_laws.specs.Elevators.{Joined, elevators}
 use Rattle.routing_laws.specs.Filling.{plane}
 use Rattle.channel_laws.specs.declared.buffers.Buffer.{Buffer}
-use Rattle.channel_laws.specs.declared.calls.Answer.the-variants.{Collected}
 use Rattle.channel_laws.specs.declared.calls.Call.{Call}
-use Rattle.channel_laws.specs.declared.calls.Call.the-variants.{Collect}
 use Rattle.channel_laws.specs.declared.records.Record.{Record}
 use Rattle.channel_laws.specs.Buffers.{buffer-of}
 use Rattle.channel_laws.specs.Table.{InStack, State, packets, packets-in}
 use Rattle.channel_laws.specs.Calls.{cleared, outcome, short}
-use Rattle.channel_laws.specs.Runs.{Event, Packet, Sits, accepted, collections-of, events, injections, injections-of, packet-of, same-packet, state-after, works, workings}
+use Rattle.channel_laws.specs.Runs.{Event, Handed, Packet, Sits, accepted, collections-of, events, injections, injections-of, packet-of, same-packet, state-after, works, workings}
 
 module _ (reply : Told → Directions) (s : State) where
   -- plane z for a way, with the elevators of a gap and that way's half of its bytes
@@ -63,16 +61,18 @@ pub record Certificate (reply : Told → Directions) (s : State) (past : List Ev
   -- some move or collect would be accepted exactly when the table holds a packet
   pub goes-on : 0 < length (packets s) → (c : Call) × (works c ≡ true) × (accepted (outcome reply s c .answer) ≡ true)
   pub only-then : (c : Call) → works c ≡ true → accepted (outcome reply s c .answer) ≡ true → 0 < length (packets s)
-  -- the moves of each packet held, and of each that a collect would hand out now, are the accepted moves that carried
-  -- it, and they are bounded
+  -- the moves of each packet held or collected are the accepted moves that carried it, and they are bounded
   pub held-moves : (r : Router) (b : Buffer) (x : Record) → InStack (s .sizes) r → Has (packets-in s r b) x → Followed past r b x × (x .moves ≤ most-moves s x)
-  pub handed-moves : (r : Router) (n : ℕ) (x : Record) → outcome reply s (Collect r n) .answer ≡ Collected x → Followed past r (buffer-of n) x × (x .moves ≤ most-moves s x)
+  pub handed-moves : (r : Router) (n : ℕ) (x : Record) (before : List Event) → Handed past r n x before → Followed before r (buffer-of n) x × (x .moves ≤ most-moves s x)
+  -- what the events say is in a buffer is held there, and each number is that of one packet, in one buffer
+  pub followed-held : (k : ℕ) (p : Packet) (r : Router) (b : Buffer) (n : ℕ) → Sits past k p r b n → (x : Record) × InStack (s .sizes) r × Has (packets-in s r b) x × (packet-of x ≡ p) × (x .moves ≡ n)
+  pub followed-once : (k : ℕ) (p q : Packet) (r r′ : Router) (b b′ : Buffer) (n n′ : ℕ) → Sits past k p r b n → Sits past k q r′ b′ n′ → (p ≡ q) × (r ≡ r′) × (b ≡ b′) × (n ≡ n′)
   -- whatever calls follow, only so many of them are accepted before the next accepted injection
   pub runs-dry : (later : List Call) → injections (events reply s later) ≡ 0 → workings (events reply s later) ≤ length (packets s) * (s .sizes .planes * (longest (s .sizes .width) (s .sizes .height) + 1))
   -- no packet is lost or made up: those injected are those held and those collected
   pub kept-count : (p : Packet) → injections-of p past ≡ held p s + collections-of p past
-  -- and each is handed out at its destination
-  pub at-home : (r : Router) (n : ℕ) (x : Record) → outcome reply s (Collect r n) .answer ≡ Collected x → r ≡ x .destination
+  -- and each was handed out at its destination
+  pub at-home : (r : Router) (n : ℕ) (x : Record) (before : List Event) → Handed past r n x before → r ≡ x .destination
 
 -- the theorem: for every guide, every planned stack and every newly cleared table, after every list of calls
 abbrev pub Certified : Type 0

@@ -34,16 +34,17 @@ has-port (Vertical Up) s = s .up
 has-port (Vertical Down) s = s .down
 
 -- ports of the plane alone
-abbrev pub planar : Directions → Ports
-planar ds = record { planar = ds; up = false; down = false }
+abbrev pub planar-only : Directions → Ports
+planar-only ds = record { planar = ds; up = false; down = false }
 
+-- no direction
 abbrev pub nowhere : Directions
 nowhere = record { north = false; east = false; south = false; west = false }
 
 -- the port of a way alone
-abbrev pub vertical : Way → Ports
-vertical Up = record { planar = nowhere; up = true; down = false }
-vertical Down = record { planar = nowhere; up = false; down = true }
+abbrev pub way-only : Way → Ports
+way-only Up = record { planar = nowhere; up = true; down = false }
+way-only Down = record { planar = nowhere; up = false; down = true }
 
 -- the side on which the packet of a buffer came in
 abbrev pub side-of : Buffer → Option Direction
@@ -74,21 +75,22 @@ abbrev pub half-of : State → Way → Router → ℕ
 half-of s way r = half way (getD (s .bytes) (cell (s .sizes .width) (s .sizes .height) (r .z) (place-of r)) 0)
 
 module _ (reply : Told → Directions) (s : State) (r : Router) (b : Buffer) (x : Record) where
-  -- what the guide replies for a packet that is bound for a router of this plane, and for one that seeks an elevator
+  -- what the guide replies for a packet that is bound for a router of this plane
   abbrev pub bound-ports : Ports
-  bound-ports = planar (reply (tell (s .sizes) (place-of r) 0 (place-of (x .destination)) (side-of b) Bound))
+  bound-ports = planar-only (reply (tell (s .sizes) (place-of r) 0 (place-of (x .destination)) (side-of b) Bound))
 
+  -- and for one that seeks an elevator
   abbrev pub seeking-ports : Way → Ports
-  seeking-ports way = planar (reply (tell (s .sizes) (place-of r) (half-of s way r) (place-of (x .destination)) (side-of b) Seeking))
+  seeking-ports way = planar-only (reply (tell (s .sizes) (place-of r) (half-of s way r) (place-of (x .destination)) (side-of b) Seeking))
 
   -- out of its destination's plane: the way's own port at an elevator, and elsewhere what the guide replies
   abbrev pub crossing-ports : Way → Ports
-  crossing-ports way = cond (is-elevator s way r) (vertical way) (seeking-ports way)
+  crossing-ports way = cond (is-elevator s way r) (way-only way) (seeking-ports way)
 
   -- the ports that packet x in buffer b of router r is permitted; none where it has arrived
   abbrev pub permitted-ports : Ports
   permitted-ports =
-      cond (same-router r (x .destination)) (planar nowhere)
+      cond (same-router r (x .destination)) (planar-only nowhere)
       (cond (eqb (r .z) (x .destination .z)) bound-ports
       (crossing-ports (way-to (r .z) (x .destination .z))))
 

@@ -25,14 +25,16 @@ pub record Event : Type 0 where
   pub call : Call
   pub answer : Answer
 
+-- the event of a call and its answer
 abbrev pub event : Call → Answer → Event
 event c a = record { call = c; answer = a }
 
--- the state after a list of calls, the latest first, and what each of them answered
+-- the state after a list of calls, the latest first
 abbrev pub state-after : (Told → Directions) → State → List Call → State
 state-after reply s [] = s
 state-after reply s (c ∷ earlier) = outcome reply (state-after reply s earlier) c .after
 
+-- what each call answered, the latest first
 abbrev pub events : (Told → Directions) → State → List Call → List Event
 events reply s [] = []
 events reply s (c ∷ earlier) = event c (outcome reply (state-after reply s earlier) c .answer) ∷ events reply s earlier
@@ -50,48 +52,56 @@ pub record Packet : Type 0 where
   pub destination : Router
   pub tag : ℕ
 
+-- a packet from its parts
 abbrev pub packet : Router → Router → ℕ → Packet
 packet source destination tag = record { source = source; destination = destination; tag = tag }
 
+-- the packet of a record
 abbrev pub packet-of : Record → Packet
 packet-of x = packet (x .source) (x .destination) (x .tag)
 
+-- whether two packets are the same
 abbrev pub same-packet : Packet → Packet → Bool
 same-packet p q = same-router (p .source) (q .source) && (same-router (p .destination) (q .destination) && eqb (p .tag) (q .tag))
 
--- a call to inject, and one to move or to collect
+-- a call to inject
 abbrev pub injects : Call → Bool
 injects (Inject source destination tag) = true
 injects (Move r n m) = false
 injects (Collect r n) = false
 
+-- a call to move or to collect
 abbrev pub works : Call → Bool
 works (Inject source destination tag) = false
 works (Move r n m) = true
 works (Collect r n) = true
 
--- the accepted injections of a run, and its accepted moves and collects
+-- the accepted injections of a run
 abbrev pub injections : List Event → ℕ
 injections es = countBy (λ e. injects (e .call) && accepted (e .answer)) es
 
+-- the accepted moves and collects of a run
 abbrev pub workings : List Event → ℕ
 workings es = countBy (λ e. works (e .call) && accepted (e .answer)) es
 
--- the injections of a packet, and its collections
+-- a call to inject this packet
 abbrev pub injects-it : Packet → Call → Bool
 injects-it p (Inject source destination tag) = same-packet p (packet source destination tag)
 injects-it p (Move r n m) = false
 injects-it p (Collect r n) = false
 
+-- an answer that hands out a packet
 abbrev pub hands-out : Packet → Answer → Bool
 hands-out p Injected = false
 hands-out p Moved = false
 hands-out p (Collected x) = same-packet p (packet-of x)
 hands-out p (Refused x) = false
 
+-- how often a run brought a packet in
 abbrev pub injections-of : Packet → List Event → ℕ
 injections-of p es = countBy (λ e. injects-it p (e .call) && accepted (e .answer)) es
 
+-- how often a run handed a packet out
 abbrev pub collections-of : Packet → List Event → ℕ
 collections-of p es = countBy (λ e. hands-out p (e .answer)) es
 
@@ -108,7 +118,12 @@ Takes (Collect q n) r b = (q ≡ r) × (buffer-of n ≡ b)
 pub data Sits : List Event → ℕ → Packet → Router → Buffer → ℕ → Type 0 where
   enters : {es : List Event} {a : Answer} {source destination : Router} {tag k : ℕ} → accepted a ≡ true → k ≡ injections es
       → Sits (event (Inject source destination tag) a ∷ es) k (packet source destination tag) source Local 0
-  moves : {es : List Event} {a : Answer} {k : ℕ} {p : Packet} {r : Router} {n : ℕ} (i m : ℕ) → accepted a ≡ true → Sits es k p r (buffer-of i) n
+  carries : {es : List Event} {a : Answer} {k : ℕ} {p : Packet} {r : Router} {n : ℕ} (i m : ℕ) → accepted a ≡ true → Sits es k p r (buffer-of i) n
       → Sits (event (Move r i m) a ∷ es) k p (neighbour (port-of m) r) (entered (port-of m) (network (p .source) (p .destination))) (n + 1)
   stays : {es : List Event} {a : Answer} {c : Call} {k : ℕ} {p : Packet} {r : Router} {b : Buffer} {n : ℕ} → (accepted a ≡ true → Takes c r b → ⊥) → Sits es k p r b n
       → Sits (event c a ∷ es) k p r b n
+
+-- what a run handed out: a collect at buffer n of router r handed out record x, after the events before
+pub data Handed : List Event → Router → ℕ → Record → List Event → Type 0 where
+  last : {before : List Event} {r : Router} {n : ℕ} {x : Record} → Handed (event (Collect r n) (Collected x) ∷ before) r n x before
+  sooner : {e : Event} {es before : List Event} {r : Router} {n : ℕ} {x : Record} → Handed es r n x before → Handed (e ∷ es) r n x before

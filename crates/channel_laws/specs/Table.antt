@@ -12,7 +12,7 @@ use Rattle.mesh.specs.declared.stack.Sizes.{Sizes}
 use Rattle.mesh.specs.Layout.{cell}
 use Rattle.channel_laws.specs.declared.buffers.Buffer.{Buffer}
 use Rattle.channel_laws.specs.declared.records.Record.{Record}
-use Rattle.channel_laws.specs.Buffers.{buffer-number, buffers}
+use Rattle.channel_laws.specs.Buffers.{buffer-count, buffer-number}
 
 -- what the calls of a run work on: the sizes, the link map, the location bytes and the table
 pub record State : Type 0 where
@@ -21,22 +21,29 @@ pub record State : Type 0 where
   pub bytes : List ℕ
   pub table : List Record
 
+-- a state from its parts
+abbrev pub state : Sizes → List ℕ → List ℕ → List Record → State
+state s links bytes table = record { sizes = s; links = links; bytes = bytes; table = table }
+
+-- the state with another table
 abbrev pub with-table : State → List Record → State
 with-table s t = record { sizes = s .sizes; links = s .links; bytes = s .bytes; table = t }
 
--- a router of the stack, as a test and as a fact
+-- a router of the stack, as a test
 abbrev pub in-stack : Sizes → Router → Bool
 in-stack s r = ltb (r .x) (s .width) && (ltb (r .y) (s .height) && ltb (r .z) (s .planes))
 
+-- a router of the stack, as a fact
 pub record InStack (s : Sizes) (r : Router) : Type 0 where
   pub column : r .x < s .width
   pub row : r .y < s .height
   pub plane : r .z < s .planes
 
--- the place of a router within its plane, and the router at a place of a plane
+-- the place of a router within its plane
 abbrev pub place-of : Router → Place
 place-of r = record { x = r .x; y = r .y }
 
+-- the router at a place of a plane
 abbrev pub router-at : ℕ → Place → Router
 router-at z p = record { x = p .x; y = p .y; z = z }
 
@@ -44,17 +51,19 @@ router-at z p = record { x = p .x; y = p .y; z = z }
 abbrev pub empty : Record
 empty = record { tag = 0; moves = 0; mark = 0; source = router-at 0 record { x = 0; y = 0 }; destination = router-at 0 record { x = 0; y = 0 } }
 
+-- a record without a packet: its mark is 0
 abbrev pub is-empty : Record → Bool
 is-empty x = eqb (x .mark) 0
 
 -- the number of records of a table
 unfoldable pub table-size : Sizes → ℕ
-table-size s = buffers * (s .planes * (s .width * s .height))
+table-size s = buffer-count * (s .planes * (s .width * s .height))
 
 -- the number of the record of a router's buffer
 unfoldable pub record-number : Sizes → Router → Buffer → ℕ
-record-number s r b = buffers * cell (s .width) (s .height) (r .z) (place-of r) + buffer-number b
+record-number s r b = buffer-count * cell (s .width) (s .height) (r .z) (place-of r) + buffer-number b
 
+-- the record of a router's buffer
 abbrev pub record-at : State → Router → Buffer → Record
 record-at s r b = getD (s .table) (record-number (s .sizes) r b) empty
 
