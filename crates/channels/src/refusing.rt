@@ -96,7 +96,7 @@ pub(crate) fn inject_refusal(
     None
 }
 
-// What ports, collect and move ask first: buffers long enough, a buffer of the stack, and a sound packet in it.
+// Slices long enough, a buffer of the stack, and a sound packet in it.
 pub(crate) fn ports_refusal(
     sizes: Sizes,
     map: &[u8],
@@ -191,20 +191,15 @@ pub(crate) fn checked_step<G: Guide>(
         return Err(Refusal::Arrived);
     }
     let port = port_of(port);
-    if !has_port(
-        permitted_ports(guide, sizes, map, bytes, router, buffer, packet),
-        port,
-    ) {
+    let permitted = permitted_ports(guide, sizes, map, bytes, router, buffer, packet);
+    if !has_port(permitted, port) {
         return Err(Refusal::NotPermitted);
     }
     if leads_out(sizes, port, router) {
         return Err(Refusal::LeavesStack);
     }
-    let to = record_number(
-        sizes,
-        next_router(sizes, port, router),
-        entered_by(packet, port),
-    );
+    let neighbour = next_router(sizes, port, router);
+    let to = record_number(sizes, neighbour, entered_by(packet, port));
     if !is_empty(table[to]) {
         return Err(Refusal::Occupied);
     }

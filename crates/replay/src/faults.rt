@@ -6,7 +6,7 @@ use std::fmt;
 
 // Why a line is not understood.
 #[derive(Clone, Copy, Debug)]
-pub enum Reason {
+pub(crate) enum Reason {
     NotText,
     UnknownWord,
     WordCount,
@@ -52,9 +52,9 @@ pub impl<T: Drop> From<Refused<T>> for Reason as ReasonFromRefused {
 
 // The first line that is not understood. Lines are counted from 1.
 #[derive(Clone, Copy, Debug)]
-pub struct Fault {
-    pub line: usize,
-    pub reason: Reason,
+pub(crate) struct Fault {
+    pub(crate) line: usize,
+    pub(crate) reason: Reason,
 }
 
 pub impl fmt::Display for Fault as FaultDisplay {

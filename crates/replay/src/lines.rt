@@ -14,7 +14,7 @@ use std::num::IntErrorKind;
 
 // How location bytes are filled.
 #[derive(Clone, Copy)]
-pub enum Scheme {
+pub(crate) enum Scheme {
     MdSafe,
     RandomOffline,
     Optimistic,
@@ -22,21 +22,21 @@ pub enum Scheme {
 
 // How ties are settled.
 #[derive(Clone, Copy)]
-pub enum Tie {
+pub(crate) enum Tie {
     First,
     Last,
     Register(u16),
 }
 
 #[derive(Clone, Copy)]
-pub struct Planning {
-    pub scheme: Scheme,
-    pub tie: Tie,
+pub(crate) struct Planning {
+    pub(crate) scheme: Scheme,
+    pub(crate) tie: Tie,
 }
 
 // What one line says.
 #[derive(Clone, Copy)]
-pub enum Line {
+pub(crate) enum Line {
     Stack(Extent),
     Order(SetNumbers),
     Link(Link),
@@ -174,7 +174,7 @@ fn parse_collect(words: &[&str]) -> Result<Call, Reason> {
 }
 
 // A line by its first word and the others.
-pub fn parse_line(first: &str, others: &[&str]) -> Result<Line, Reason> {
+pub(crate) fn parse_line(first: &str, others: &[&str]) -> Result<Line, Reason> {
     match first {
         "stack" => Ok(Line::Stack(parse_stack(others)?)),
         "order" => Ok(Line::Order(parse_order(others)?)),

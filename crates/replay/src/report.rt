@@ -66,7 +66,7 @@ impl fmt::Display for Numbers as NumbersDisplay {
 
 // How many calls were accepted, and how many packets are held.
 #[derive(Clone, Copy)]
-pub struct Totals {
+pub(crate) struct Totals {
     injected: usize,
     moved: usize,
     collected: usize,
@@ -74,7 +74,7 @@ pub struct Totals {
 }
 
 impl Totals {
-    pub fn new() -> Totals {
+    pub(crate) fn new() -> Totals {
         Totals {
             injected: 0,
             moved: 0,
@@ -97,7 +97,7 @@ impl Totals {
     }
 }
 
-pub fn write_fault<W: Write>(out: &mut W, fault: StackFault) -> Result<(), AnyError> {
+pub(crate) fn write_fault<W: Write>(out: &mut W, fault: StackFault) -> Result<(), AnyError> {
     let mut text = [0; TEXT];
     let Ok(count) = list_fault(fault, &mut text) else {
         return Err("the listing does not fit".into());
@@ -106,7 +106,11 @@ pub fn write_fault<W: Write>(out: &mut W, fault: StackFault) -> Result<(), AnyEr
     Ok(())
 }
 
-pub fn write_plan<W: Write>(out: &mut W, sizes: Sizes, bytes: &[u8]) -> Result<(), AnyError> {
+pub(crate) fn write_plan<W: Write>(
+    out: &mut W,
+    sizes: Sizes,
+    bytes: &[u8],
+) -> Result<(), AnyError> {
     let mut text = [0; TEXT];
     let Ok(count) = list_plan(sizes, bytes, &mut text) else {
         return Err("the listing does not fit".into());
@@ -116,7 +120,7 @@ pub fn write_plan<W: Write>(out: &mut W, sizes: Sizes, bytes: &[u8]) -> Result<(
     Ok(())
 }
 
-pub fn write_refusal<W: Write>(out: &mut W, refusal: Refusal) -> Result<(), AnyError> {
+pub(crate) fn write_refusal<W: Write>(out: &mut W, refusal: Refusal) -> Result<(), AnyError> {
     let number = refusal.number();
     writeln!(out, "plan refused {number}")?;
     Ok(())
@@ -146,7 +150,7 @@ fn write_answer<W: Write>(out: &mut W, call: Call, answer: Answer) -> io::Result
 }
 
 // A line for each call.
-pub fn write_answers<W: Write>(
+pub(crate) fn write_answers<W: Write>(
     out: &mut W,
     calls: &[Call],
     answers: &[Answer],
@@ -160,7 +164,7 @@ pub fn write_answers<W: Write>(
 }
 
 // A line for a packet that is held in a buffer of a router.
-pub fn write_held<W: Write>(
+pub(crate) fn write_held<W: Write>(
     out: &mut W,
     router: Router,
     buffer: u8,
@@ -175,7 +179,7 @@ pub fn write_held<W: Write>(
     writeln!(out, "held {spot} {buffer} {packet} ports{numbers}")
 }
 
-pub fn write_totals<W: Write>(out: &mut W, totals: Totals) -> io::Result<()> {
+pub(crate) fn write_totals<W: Write>(out: &mut W, totals: Totals) -> io::Result<()> {
     let Totals {
         injected,
         moved,

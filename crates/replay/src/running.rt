@@ -166,7 +166,7 @@ fn run_settled<W: Write>(job: Job<'_>, tie: Tie, out: &mut W) -> Result<(), AnyE
 }
 
 // Works a script, and writes the report.
-pub fn work<W: Write>(heap: Global, script: &Script, out: &mut W) -> Result<(), AnyError> {
+pub(crate) fn work<W: Write>(heap: Global, script: &Script, out: &mut W) -> Result<(), AnyError> {
     let mut map = [0; MAP];
     match read(&script.description, &mut map) {
         Ok(description) => run_settled(

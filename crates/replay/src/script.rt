@@ -15,10 +15,10 @@ use std::str::from_utf8;
 
 // A whole script. The description is spelled in bytes, as the reader takes it.
 #[derive(Drop)]
-pub struct Script {
-    pub description: Vec<u8>,
-    pub planning: Planning,
-    pub calls: Vec<Call>,
+pub(crate) struct Script {
+    pub(crate) description: Vec<u8>,
+    pub(crate) planning: Planning,
+    pub(crate) calls: Vec<Call>,
 }
 
 // What may come next.
@@ -138,7 +138,7 @@ fn parse_text(heap: Global, text: &str) -> Result<Script, Fault> {
 }
 
 // Reads a script, up to the first line that is not understood. Input that is not text is refused before any line is read.
-pub fn parse(heap: Global, input: &[u8]) -> Result<Script, Fault> {
+pub(crate) fn parse(heap: Global, input: &[u8]) -> Result<Script, Fault> {
     match from_utf8(input) {
         Ok(text) => parse_text(heap, text),
         Err(error) => Err(Fault {
