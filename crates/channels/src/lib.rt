@@ -13,3 +13,4 @@ pub use calls::move_packet;
 pub use calls::ports;
 pub use runs::run_script;
 pub use runs::start_run;
+pub use spots::EMPTY;

@@ -17,7 +17,8 @@ use mesh::Way;
 // The number of buffers of a router.
 const BUFFERS: usize = 11;
 
-pub(crate) const EMPTY: Record = Record {
+// The record of an empty buffer.
+pub const EMPTY: Record = Record {
     tag: 0,
     moves: 0,
     mark: 0,

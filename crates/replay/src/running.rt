@@ -15,6 +15,7 @@ use crate::script::Script;
 use channel_laws::Answer;
 use channel_laws::Call;
 use channel_laws::Record;
+use channels::EMPTY;
 use channels::ports;
 use channels::run_script;
 use description::Description;
@@ -46,14 +47,6 @@ const MAP: usize = 4_032;
 
 // The buffers of a router.
 const BUFFERS: usize = 11;
-
-const EMPTY: Record = Record {
-    tag: 0,
-    moves: 0,
-    mark: 0,
-    source: Router { x: 0, y: 0, z: 0 },
-    destination: Router { x: 0, y: 0, z: 0 },
-};
 
 // A stack as it is described, and the calls to work on it.
 #[derive(Clone, Copy)]

@@ -1,11 +1,11 @@
 -- Worked samples on a plane of 3 by 3 with elevators at (0, 0) and (2, 2).
 use mathlib.Core.Path.{_≡_}
 use mathlib.Core.Bool.{false, true}
-use mathlib.Core.List.{List, [], _∷_}
-use Prim.Native.Nat.{ℕ, _-_, _%_}
+use mathlib.Core.List.{List, [], _∷_, map}
+use Prim.Native.Nat.{ℕ, _%_}
 use native.Mathlib.Omega.{arith}
 use lib.Dec.{lit≤}
-use lib.ListN.{getD, length}
+use lib.ListN.{getD}
 use Rattle.std.specs.declared.result.Result.{Result}
 use Rattle.std.specs.declared.result.Result.the-variants.{Err}
 use Rattle.std.specs.Results.{isOk}
@@ -16,11 +16,16 @@ use Rattle.mesh.specs.declared.refusals.Refusal.the-variants.{OneSet}
 use Rattle.mesh.specs.declared.turns.TurnOrder.{TurnOrder}
 use Rattle.mesh.specs.Layout.{cell}
 use Rattle.mesh.specs.Orders.{Decided, xy}
-use Rattle.routing_laws.specs.Filling.{Asked, Task}
+use Rattle.routing_laws.specs.Filling.{Task}
 use Rattle.routing_laws.specs.Nearest.{safe-half}
 use Rattle.routing_laws.specs.Optimistic.{open-half}
 use Rattle.routing_laws.specs.Register.{shifted}
+use Rattle.routing_laws.specs.Guides.{pointing-reply}
+use Rattle.routing_laws.specs.Plan.{planned}
 use Rattle.routing_laws.specs.Ties.{asks, candidates, tie-half}
+use Rattle.channel_laws.specs.Runs.{events}
+use Rattle.samples.specs.Choosing.{first-position, last-position, unmoved}
+use Rattle.samples.specs.Journey.{arrivals, by-first, journey, loaded, locations}
 
 abbrev pub place : ℕ → ℕ → Place
 place x y = record { x = x; y = y }
@@ -34,16 +39,6 @@ up = record { width = 3; height = 3; plane = 0; way = Up; elevators = two }
 -- what a half holds at a place
 abbrev pub at : List ℕ → ℕ → ℕ → ℕ
 at half x y = getD half (cell 3 3 0 (place x y)) 0
-
--- choosers that reply with the first and the last candidate, and have no state
-abbrev pub first-position : Unit {0} → Asked → ℕ
-first-position _ _ = 0
-
-abbrev pub last-position : Unit {0} → Asked → ℕ
-last-position _ q = length (q .candidates) - 1
-
-abbrev pub unmoved : Unit {0} → Asked → Unit {0}
-unmoved c _ = c
 
 -- North-Last: only North is in set 1
 abbrev pub north-last : TurnOrder
@@ -86,3 +81,6 @@ pub record Samples : Type 0 where
   -- four directions in one set are refused, and any other division is not
   pub one-set : (r : Result TurnOrder Refusal) → Decided 0 0 0 0 r → r ≡ Err OneSet
   pub two-sets : (r : Result TurnOrder Refusal) → Decided 0 0 0 1 r → isOk r ≡ true
+  -- the journey: the stack is planned so, and the packet is collected after five moves
+  pub laid-out : planned by-first tt ≡ locations
+  pub five-moves : map (λ e. e .answer) (events (pointing-reply xy) loaded journey) ≡ arrivals

@@ -1,1 +1,3 @@
+pub mod Choosing
+pub mod Journey
 pub mod Facts

@@ -1,5 +1,8 @@
 // Works through the samples and prints what each call did. The starred ones are proved too.
+mod journey;
+
 ghost use Rattle.samples.specs.Facts.{Samples};
+use crate::journey::show_journey;
 use listing::list_plan;
 use mesh::Place;
 use mesh::Refusal;
@@ -120,5 +123,6 @@ fn main(rt: LibcRuntime) -> io::Result<()> {
     show_register(&rt)?;
     show_edges(&rt)?;
     show_unlinked(&rt, 1)?;
-    show_unlinked(&rt, 2)
+    show_unlinked(&rt, 2)?;
+    show_journey(&rt, &MAP)
 }
