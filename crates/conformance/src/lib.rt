@@ -10,4 +10,6 @@ mod reading;
 #[cfg(test)]
 mod samples;
 #[cfg(test)]
+mod tables;
+#[cfg(test)]
 mod values;
