@@ -15,13 +15,18 @@ use Rattle.mesh.specs.declared.compass.Directions.{Directions}
 use Rattle.mesh.specs.declared.grid.Router.{Router}
 use Rattle.mesh.specs.declared.refusals.Refusal.{Refusal}
 use Rattle.routing_laws.specs.Chains.{Told}
+use Rattle.mesh.specs.declared.compass.Way.{Way}
+use Rattle.routing_laws.specs.Elevators.{linked}
+use Rattle.channel_laws.proofs.Crossing.{at-elevator}
+use Rattle.channel_laws.specs.Ports.{gap-of, has-port, permitted-ports}
+use Rattle.channel_laws.specs.declared.buffers.Port.the-variants.{Vertical}
 use Rattle.channel_laws.specs.declared.buffers.Buffer.{Buffer}
 use Rattle.channel_laws.specs.declared.calls.Answer.the-variants.{Collected, Moved}
 use Rattle.channel_laws.specs.declared.calls.Call.{Call}
 use Rattle.channel_laws.specs.declared.calls.Call.the-variants.{Inject, Move, Collect}
 use Rattle.channel_laws.specs.declared.records.Record.{Record}
 use Rattle.channel_laws.specs.Buffers.{buffer-of, port-of}
-use Rattle.channel_laws.specs.Table.{InStack, State, is-empty, kept, packets, table-size, with-table}
+use Rattle.channel_laws.specs.Table.{InStack, State, is-empty, kept, packets, table-size, with-table, place-of}
 use Rattle.channel_laws.specs.Calls.{cleared, collect-refusal, decided, move-refusal, moved, outcome, short, short-table, taken}
 use Rattle.channel_laws.specs.Runs.{Event, Handed, accepted, event, events, last, sooner, state-after, works}
 use Rattle.channel_laws.specs.Certificate.{Certificate, Certified, Followed, Guided, most-moves}
@@ -92,6 +97,13 @@ module _ (reply : Told → Directions) (s : State) (g : Guided reply s) (fits : 
       let c = hands r n x e in
       (followed r (buffer-of n) x (c .0 .at) (c .0 .full) (c .1), router-same r (at (s .sizes) t r (buffer-of n) .destination) (c .0 .home) ∙ ap (λ y. y .destination) (c .1))
 
+  crossed : (r : Router) (n m : ℕ) (way : Way) → port-of m ≡ Vertical way → accepted (outcome reply (with-table s t) (Move r n m) .answer) ≡ true
+      → linked (s .sizes .width) (s .sizes .height) (s .links) (gap-of way (r .z)) (place-of r) ≡ true
+  crossed r n m way is a =
+      let c = can-move reply (with-table s t) r n m (accepted-none (move-refusal reply (with-table s t) r n m) Moved (moved (with-table s t) r (buffer-of n) (port-of m)) (with-table s t) a) in
+      let x = at (s .sizes) t r (buffer-of n) in
+      at-elevator reply (with-table s t) r (buffer-of n) x way (subst (λ p. has-port p (permitted-ports reply (with-table s t) r (buffer-of n) x) ≡ true) is (c .permitted))
+
   certificate : ((r : Router) (n : ℕ) (x : Record) (before : List Event) → Handed past r n x before → Gone s before r n x) → Certificate reply (with-table s t) past
   certificate gone = record {
     goes-on = never-stuck reply s g fits t past good enough;
@@ -101,6 +113,7 @@ module _ (reply : Told → Directions) (s : State) (g : Guided reply s) (fits : 
     followed-held = λ k p r b n z. let h = placed k p r b n z in (at (s .sizes) t r b, h .0, keeps-it (at (s .sizes) t r b) (h .1), h .2, h .3);
     followed-once = λ k p q r r′ b b′ n n′ y z. one-place y z;
     runs-dry = dry reply s g fits t past good;
+    crosses = crossed;
     kept-count = good .counted;
     at-home = λ r n x before h. gone r n x before h .1;
   }

@@ -5,5 +5,6 @@ pub mod Riding
 pub mod Keeping
 pub mod Lasting
 pub mod Standing
+pub mod Crossing
 pub mod Certified
 pub mod Following

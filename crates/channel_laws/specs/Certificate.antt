@@ -12,13 +12,16 @@ use Rattle.mesh.specs.declared.grid.Router.{Router}
 use Rattle.mesh.specs.Compass.{gap}
 use Rattle.mesh.specs.Halves.{half}
 use Rattle.routing_laws.specs.Chains.{Plane, Rules, Told, longest, plane-of}
-use Rattle.routing_laws.specs.Elevators.{Joined, elevators}
+use Rattle.routing_laws.specs.Elevators.{Joined, elevators, linked}
 use Rattle.routing_laws.specs.Filling.{plane}
 use Rattle.channel_laws.specs.declared.buffers.Buffer.{Buffer}
+use Rattle.channel_laws.specs.declared.buffers.Port.the-variants.{Vertical}
 use Rattle.channel_laws.specs.declared.calls.Call.{Call}
+use Rattle.channel_laws.specs.declared.calls.Call.the-variants.{Move}
 use Rattle.channel_laws.specs.declared.records.Record.{Record}
-use Rattle.channel_laws.specs.Buffers.{buffer-of}
-use Rattle.channel_laws.specs.Table.{InStack, State, packets, packets-in}
+use Rattle.channel_laws.specs.Buffers.{buffer-of, port-of}
+use Rattle.channel_laws.specs.Ports.{gap-of}
+use Rattle.channel_laws.specs.Table.{InStack, State, packets, packets-in, place-of}
 use Rattle.channel_laws.specs.Calls.{cleared, outcome, short}
 use Rattle.channel_laws.specs.Runs.{Event, Handed, Packet, Sits, accepted, collections-of, events, injections, injections-of, packet-of, same-packet, state-after, works, workings}
 
@@ -69,6 +72,9 @@ pub record Certificate (reply : Told → Directions) (s : State) (past : List Ev
   pub followed-once : (k : ℕ) (p q : Packet) (r r′ : Router) (b b′ : Buffer) (n n′ : ℕ) → Sits past k p r b n → Sits past k q r′ b′ n′ → (p ≡ q) × (r ≡ r′) × (b ≡ b′) × (n ≡ n′)
   -- whatever calls follow, only so many of them are accepted before the next accepted injection
   pub runs-dry : (later : List Call) → injections (events reply s later) ≡ 0 → workings (events reply s later) ≤ length (packets s) * (s .sizes .planes * (longest (s .sizes .width) (s .sizes .height) + 1))
+  -- an accepted vertical move crosses a link, one of the gap on its way
+  pub crosses : (r : Router) (n m : ℕ) (way : Way) → port-of m ≡ Vertical way → accepted (outcome reply s (Move r n m) .answer) ≡ true
+      → linked (s .sizes .width) (s .sizes .height) (s .links) (gap-of way (r .z)) (place-of r) ≡ true
   -- no packet is lost or made up: those injected are those held and those collected
   pub kept-count : (p : Packet) → injections-of p past ≡ held p s + collections-of p past
   -- and each was handed out at its destination

@@ -98,16 +98,28 @@ fn short_slices_are_refused() -> Result<(), Fail> {
     )
 }
 
-// What collect answers for a buffer of a router, in an empty table.
-fn empty_buffer(router: Router, buffer: u8) -> Result<u8, Fail> {
+// What collect answers for a buffer of router (x, y, z), in an empty table.
+fn collected(x: u8, y: u8, z: u8, buffer: u8) -> Result<u8, Fail> {
     let sizes = Sizes::new(3, 3, 2)?;
-    Ok(number(collect(
+    let mut table = [EMPTY; 198];
+    let router = Router { x, y, z };
+    Ok(number(collect(sizes, &SAMPLE_MAP, &[0; 18], &mut table, router, buffer)))
+}
+
+// What a move through a port answers, in an empty table.
+fn moved(port: u8) -> Result<u8, Fail> {
+    let sizes = Sizes::new(3, 3, 2)?;
+    let guide = Pointing { order: xy()? };
+    let mut table = [EMPTY; 198];
+    Ok(number(move_packet(
+        &guide,
         sizes,
         &SAMPLE_MAP,
         &[0; 18],
-        &mut [EMPTY; 198],
-        router,
-        buffer,
+        &mut table,
+        CENTRE,
+        0,
+        port,
     )))
 }
 
@@ -117,54 +129,12 @@ fn expected(value: u8, count: u8) -> u8 {
 
 #[test]
 fn routers_buffers_and_ports_outside_are_refused() -> Result<(), Fail> {
-    let sizes = Sizes::new(3, 3, 2)?;
-    let guide = Pointing { order: xy()? };
     for value in 0..=255u8 {
-        check_eq(
-            empty_buffer(
-                Router {
-                    x: value,
-                    y: 0,
-                    z: 0,
-                },
-                0,
-            )?,
-            expected(value, 3),
-        ).note(value)?;
-        check_eq(
-            empty_buffer(
-                Router {
-                    x: 0,
-                    y: value,
-                    z: 0,
-                },
-                0,
-            )?,
-            expected(value, 3),
-        ).note(value)?;
-        check_eq(
-            empty_buffer(
-                Router {
-                    x: 0,
-                    y: 0,
-                    z: value,
-                },
-                0,
-            )?,
-            expected(value, 2),
-        ).note(value)?;
-        check_eq(empty_buffer(CENTRE, value)?, expected(value, 11)).note(value)?;
-        let moved = move_packet(
-            &guide,
-            sizes,
-            &SAMPLE_MAP,
-            &[0; 18],
-            &mut [EMPTY; 198],
-            CENTRE,
-            0,
-            value,
-        );
-        check_eq(number(moved), expected(value, 6)).note(value)?;
+        check_eq(collected(value, 0, 0, 0)?, expected(value, 3)).note(value)?;
+        check_eq(collected(0, value, 0, 0)?, expected(value, 3)).note(value)?;
+        check_eq(collected(0, 0, value, 0)?, expected(value, 2)).note(value)?;
+        check_eq(collected(1, 1, 0, value)?, expected(value, 11)).note(value)?;
+        check_eq(moved(value)?, expected(value, 6)).note(value)?;
     }
     Ok(())
 }
@@ -191,6 +161,8 @@ fn packet_read(record: Record, collected: u8, told: u8) -> Result<(), Fail> {
 
 #[test]
 fn damaged_records_are_refused() -> Result<(), Fail> {
+    let source = Router { x: 3, y: 0, z: 0 };
+    let destination = Router { x: 0, y: 0, z: 2 };
     packet_read(Record { mark: 2, ..PACKET }, 14, 14)?;
     packet_read(
         Record {
@@ -208,17 +180,10 @@ fn damaged_records_are_refused() -> Result<(), Fail> {
         14,
         14,
     )?;
+    packet_read(Record { source, ..PACKET }, 14, 14)?;
     packet_read(
         Record {
-            source: Router { x: 3, y: 0, z: 0 },
-            ..PACKET
-        },
-        14,
-        14,
-    )?;
-    packet_read(
-        Record {
-            destination: Router { x: 0, y: 0, z: 2 },
+            destination,
             ..PACKET
         },
         14,
