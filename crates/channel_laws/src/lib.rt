@@ -1,6 +1,9 @@
 // The channel table: its buffers, its records, the calls that work it and what they answer, as types. What the calls
 // do is in specs/; that the table never stands still, and never loses a packet, is proved here once, so that the
 // code's own crate stays quick to check.
+
+#![tactic(auto)]
+
 mod buffers;
 mod calls;
 mod certificate;

@@ -1,4 +1,7 @@
 // The channel table: packets that wait in the buffers of a stack's routers, and move.
+
+#![tactic(auto)]
+
 mod calls;
 mod codes;
 mod permits;

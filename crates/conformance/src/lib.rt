@@ -1,4 +1,7 @@
 // Tests of the library as its callers use it, by examples whose answers were worked out by hand.
+
+#![tactic(auto)]
+
 #[cfg(test)]
 mod listings;
 #[cfg(test)]

@@ -1,4 +1,7 @@
 // The reader of descriptions, in three layers: bytes, records, and the stack that they describe.
+
+#![tactic(auto)]
+
 mod bytes;
 mod reader;
 mod records;

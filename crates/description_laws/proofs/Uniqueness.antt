@@ -1,17 +1,17 @@
 -- No bytes have two readings: two fronts that grow over the same bytes take the same records, one by one, and stop
 -- where no record fits.
-use Rattle.std.proofs.Common.{◌≡◌, ℕ, suc, ◌+◌, ◌<◌, ◌≤◌, cond, eqb, List, [], ◌∷◌, ◌++◌, length, get_or, drop, sym, refl, ap, ◌∙◌, subst, append_assoc, append-nil, arith}
+use Rattle.std.proofs.Common.{◌≡◌, ℕ, suc, ◌<◌, cond, eqb, List, [], ◌∷◌, ◌++◌, length, get_or, drop, sym, refl, ap, ◌∙◌, subst, append_assoc, append-nil, arith}
 use Rattle.std.specs.List.{ContainsAt as Has}
-use Rattle.std.proofs.ByRecursion.{has_append_left, has_append_right, has_push}
+use Rattle.std.proofs.ByRecursion.{has_append_right}
 use Rattle.mesh.specs.declared.grid.Link.{Link}
 use Rattle.mesh.specs.declared.refusals.Refusal.{Refusal}
-use Rattle.mesh.specs.declared.refusals.Refusal.TheVariants.{InputEnds, UnknownLetter, OutOfRange, OutOfPlace, OneSet, LinkOutside, LinkTwice, GapUnlinked}
+use Rattle.mesh.specs.declared.refusals.Refusal.TheVariants.{OutOfRange, OutOfPlace, OneSet, LinkOutside, LinkTwice, GapUnlinked}
 use Rattle.mesh.specs.Numbers.{number_of}
 use Rattle.description_laws.specs.declared.records.Extent.{Extent}
 use Rattle.description_laws.specs.declared.records.Record.{Record}
 use Rattle.description_laws.specs.declared.records.Record.TheVariants.{Stack, Order, Pillar, End}
 use Rattle.description_laws.specs.declared.records.SetNumbers.{SetNumbers}
-use Rattle.description_laws.specs.Description.{Kind, kind_s, kind_o, kind_l, kind_z, spelled, spelled_links, InRange, OneForAll, Gap, Within, Linked, Once, Sound, WellFormed, Front, nothing, sized, listing, ended, text, Faultless, InPlace, first, second, link, last, Wrong, range, place, one_set, outside, twice, unlinked, First, Open, at_start, after_s, after_o, Fault, missing, unknown, short, wrong, beyond, Faulty, OneReading}
+use Rattle.description_laws.specs.Description.{Kind, kind_s, kind_o, kind_l, kind_z, spelled, spelled_links, InRange, OneForAll, Gap, Within, Linked, Sound, WellFormed, Front, nothing, sized, listing, ended, text, Faultless, first, second, link, last, Wrong, range, place, one_set, outside, twice, unlinked, First, Fault, missing, unknown, short, wrong, beyond, OneReading}
 
 -- the length of the body after a letter
 size : ℕ → ℕ

@@ -5,7 +5,6 @@ use Rattle.mesh.specs.declared.refusals.Refusal.TheVariants.{InputEnds}
 use Rattle.mesh.specs.Numbers.{number_of}
 use Rattle.description_laws.specs.declared.faults.Layer.{Layer}
 use Rattle.description_laws.specs.declared.faults.Layer.TheVariants as layers
-use Rattle.description_laws.specs.declared.faults.RecordFault.{RecordFault}
 use Rattle.description_laws.specs.declared.faults.RecordFault.TheVariants as record-faults
 use Rattle.description_laws.specs.declared.faults.StackFault.{StackFault}
 use Rattle.description_laws.specs.declared.faults.StackFault.TheVariants as stack-faults

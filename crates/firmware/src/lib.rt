@@ -1,4 +1,7 @@
 // The library for firmware written in C: numbers and slices only. Each call answers 0, or the number of its refusal.
+
+#![tactic(auto)]
+
 mod opening;
 mod planning;
 mod reading;

@@ -1,4 +1,7 @@
 // Plans a stack of 24 by 24 by 4 by a buyer's own rules, works a crowded script on it, and prints what happened.
+
+#![tactic(auto)]
+
 mod crowd;
 mod report;
 

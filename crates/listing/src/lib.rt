@@ -1,4 +1,7 @@
 // The text of a plan and of a fault, written into a buffer of the caller's.
+
+#![tactic(auto)]
+
 mod builder;
 mod fault;
 mod plan;

@@ -1,5 +1,8 @@
 // The vocabulary of a stack: its sizes, its places and routers, directions, half-bytes, turn orders, and the
 // refusals that every call of the library answers with.
+
+#![tactic(auto)]
+
 mod compass;
 mod grid;
 mod halves;

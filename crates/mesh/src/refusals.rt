@@ -1,11 +1,8 @@
 // Why a call refuses. Every refusal of the library is a case of this one enum, and has one number.
-ghost use Rattle.std.specs.Prelude.{◌≡◌, Decides};
+ghost use Rattle.std.specs.Prelude.{◌≡◌};
 ghost use Rattle.mesh.specs.Numbers.{number_of};
-ghost use Rattle.std.specs.Cmp.Rules.{comparing};
-ghost use Rattle.std.proofs.Common.{rules};
-ghost use Rattle.std.specs.Cmp as Keys;
 
-#[derive(Clone, Copy, Eq, Debug)]
+#[derive(Clone, Copy, PartialEq, Eq, Debug)]
 pub enum Refusal {
     InputEnds,
     UnknownLetter,
@@ -51,16 +48,5 @@ impl Refusal {
             Refusal::LeavesStack => 17,
             Refusal::NotArrived => 18,
         }
-    }
-}
-
-// Refusals are the same exactly when their numbers are. (A derived `==` of so many cases would promise nothing.)
-impl PartialEq for Refusal {
-    ghost equals = { λ x y r. Decides r (x ≡ y) };
-
-    ghost laws = { Keys.partial_equiv_from_equiv (Prim.search (comparing, rules)) };
-
-    fn eq(&self, other: &Refusal) -> bool {
-        self.number() == other.number()
     }
 }

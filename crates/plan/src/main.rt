@@ -1,4 +1,7 @@
 // Reads a description from standard input, plans the stack by MD-safe, and prints the location bytes or the fault.
+
+#![tactic(auto)]
+
 ghost use Rattle.std.specs.Prelude.{◌≡◌, ℕ, ◌-◌, ◌*◌, ◌<◌, ◌≤◌, length, take, MatchResult};
 ghost use Rattle.mesh.specs.declared.refusals.Refusal.TheVariants.{ShortBuffer};
 ghost use Rattle.listing.specs.Listed.{Listed};

@@ -1,4 +1,7 @@
 // Planning: location bytes for every router of a stack, by any filler and any chooser.
+
+#![tactic(auto)]
+
 mod gaps;
 mod planning;
 

@@ -1,5 +1,8 @@
 // Reads a script from standard input: a stack, how it is planned, and calls on its channel table. Prints the plan,
 // what each call did, and the packets that are still held.
+
+#![tactic(auto)]
+
 mod faults;
 mod lines;
 mod report;

@@ -1,4 +1,7 @@
 // The interfaces by which a buyer brings tie rules, fillers and guides, and those that are supplied.
+
+#![tactic(auto)]
+
 mod choosing;
 mod filling;
 mod guiding;

@@ -97,8 +97,8 @@ fn settle<C: Chooser>(
 ) -> Place
     requires some { 0 < length elevators.now }
     requires few { length elevators.now ≤ 576 }
-    ensures settles { result ≡ target position after order plane way elevators.now place chooser.old }
-    ensures goes { chooser.new ≡ onward position after order plane way elevators.now place chooser.old }
+    ensures settles { result ≡ target C.position C.after order plane way elevators.now place chooser.old }
+    ensures goes { chooser.new ≡ onward C.position C.after order plane way elevators.now place chooser.old }
 {
     let mut room = [Place { x: 0, y: 0 }; MOST];
     let count = list_candidates(order, place, elevators, &mut room);
@@ -122,8 +122,8 @@ fn settle_all<C: Chooser>(
     requires some { 0 < length elevators.now }
     requires few { length elevators.now ≤ 576 }
     requires whole { length bytes.old ≡ sizes.width * sizes.height }
-    ensures writes { bytes.new ≡ put_halves way bytes.old (tie_half position after order (task sizes plane way elevators.now) chooser.old) }
-    ensures goes { chooser.new ≡ tie_next position after order (task sizes plane way elevators.now) chooser.old }
+    ensures writes { bytes.new ≡ put_halves way bytes.old (tie_half C.position C.after order (task sizes plane way elevators.now) chooser.old) }
+    ensures goes { chooser.new ≡ tie_next C.position C.after order (task sizes plane way elevators.now) chooser.old }
 {
     for (i, byte) in bytes.iter_mut().enumerate() {
         let place = sizes.place_at(i);

@@ -4,7 +4,6 @@ use Rattle.std.specs.List.{HoldsAt, ContainsAt as Has, AllByRecursion as All}
 use Rattle.std.proofs.ByRecursion.{has_get_or}
 use Rattle.std.proofs.lemmas.List.{take_more}
 use Rattle.std.proofs.lemmas.Bool.Decides.{Decides-and, Decides-by_or, Decides-eqb, Decides-like, Decides-ltb}
-use Rattle.mesh.specs.declared.compass.Directions.{Directions}
 use Rattle.mesh.specs.declared.grid.Place.{Place}
 use Rattle.mesh.specs.Halves.{pack}
 use Rattle.mesh.proofs.Masks.{pack_small}

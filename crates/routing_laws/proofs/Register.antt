@@ -1,5 +1,5 @@
 -- The shift register: its code by masks and shifts, and that it is never zero.
-use Rattle.std.proofs.Common.{◌≡◌, ℕ, ◌+◌, ◌*◌, ◌/◌, ◌%◌, ◌^◌, ◌<◌, ap, ◌∙◌, ⊎_elim, arith, lit<}
+use Rattle.std.proofs.Common.{◌≡◌, ℕ, ◌*◌, ◌/◌, ◌%◌, ◌^◌, ◌<◌, ap, ◌∙◌, ⊎_elim, arith, lit<}
 use lib.Bits.{bit_or, bit_xor, or_shifted_r, xor_lt}
 use Rattle.std.proofs.lemmas.Bool.{cases_eq}
 use Rattle.routing_laws.specs.Register.{Moved, bit, shifted, tapped}

@@ -1,7 +1,7 @@
 -- MD-safe's half: its length, its range, and that it points at the last nearest elevator.
 use Rattle.std.proofs.Common.{◌≡◌, ℕ, ◌+◌, ◌*◌, ◌%◌, ◌<◌, ◌≤◌, List, map, length, get_or, set, sym, ap, ◌∙◌, subst, mod-eq_of_lt, arith}
 use lib.ListN.{length-map}
-use Rattle.std.specs.List.{range_with_len, AllByRecursion as All}
+use Rattle.std.specs.List.{AllByRecursion as All}
 use Rattle.std.proofs.lemmas.List.FromFn.{get_or-map-range_with_len, length-map-range_with_len}
 use Rattle.std.proofs.ByRecursion.{All-from_get_or, All-map}
 use Rattle.std.proofs.lemmas.List.{get_or-map}
@@ -13,7 +13,7 @@ use Rattle.mesh.specs.Layout.{place_at}
 use Rattle.mesh.proofs.Masks.{half_written, pack_small}
 use Rattle.routing_laws.specs.Elevators.{origin, places}
 use Rattle.routing_laws.specs.Filling.{put_halves}
-use Rattle.routing_laws.specs.Nearest.{LastNearest, PointsSafely, last_nearest, pointing, safe_half}
+use Rattle.routing_laws.specs.Nearest.{PointsSafely, last_nearest, pointing, safe_half}
 use Rattle.routing_laws.proofs.Filling.{Left, filled_alone, left_all, left_more, left_none, put_halves_at}
 use Rattle.routing_laws.proofs.Nearest.{last_nearest_found}
 

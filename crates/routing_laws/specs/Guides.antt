@@ -1,5 +1,5 @@
 -- The two supplied guides: what they reply, and which fillings are lawful for them.
-use Rattle.std.specs.Prelude.{◌≡◌, ℕ, ◌<◌, ◌≤◌, Bool, true, false, cond, ◌&&◌, List, length, Some, None, Option}
+use Rattle.std.specs.Prelude.{◌≡◌, ℕ, ◌<◌, ◌≤◌, true, false, cond, ◌&&◌, List, length, Some, None, Option}
 use Rattle.std.specs.List.{ContainsAt as Has}
 use Rattle.mesh.specs.declared.compass.Direction.{Direction}
 use Rattle.mesh.specs.declared.compass.Direction.TheVariants.{North, East, South, West}

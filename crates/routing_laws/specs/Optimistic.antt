@@ -1,5 +1,5 @@
 -- The optimistic scheme's half: in which directions elevators lie.
-use Rattle.std.specs.Prelude.{◌≡◌, ℕ, ◌<◌, Bool, true, false, ◌&&◌, ◌||◌, ltb, List, [], ◌∷◌, map, Decides, ◌==◌, nat_lt}
+use Rattle.std.specs.Prelude.{◌≡◌, ℕ, ◌<◌, Bool, false, ◌&&◌, ◌||◌, ltb, List, [], ◌∷◌, map, Decides, ◌==◌, nat_lt}
 use Rattle.std.specs.List.{ContainsAt as Has}
 use Rattle.mesh.specs.declared.compass.Directions.{Directions}
 use Rattle.mesh.specs.declared.grid.Place.{Place}

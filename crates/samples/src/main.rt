@@ -1,4 +1,7 @@
 // Works through the samples and prints what each call did. The starred ones are proved too.
+
+#![tactic(auto)]
+
 mod journey;
 
 ghost use Rattle.samples.specs.Facts.{Samples};

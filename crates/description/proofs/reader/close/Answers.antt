@@ -17,4 +17,4 @@ pub returns-then-not-is-empty : goal.returns-then-not-is-empty
 returns-then-not-is-empty c = follows c.requires.1 c.requires.0 c.if-not-every-gap-linked.ensures (eqb-false _ _ (sym c.if-not-is-empty.ensures))
 
 pub returns : goal.returns
-returns c = complete c.requires.1 c.requires.0 c.if-not-every-gap-linked.ensures (nil_from_length _ (eqb-true _ _ (sym c.if-not-is-empty.ensures)))
+returns c = complete c.requires.1 c.requires.0 c.if-not-every_gap_linked.ensures (nil_from_length _ (eqb-true _ _ (sym c.if-not-is_empty.ensures)))

@@ -58,6 +58,6 @@ returns-in-err-mark c =
 
 pub loop-record-preserved : goal.loop-record-preserved
 loop-record-preserved c =
-    let h = c.in-ok-record.ensures in
-    let m = c.in-ok-mark.ensures in
-    rw m.2 (another c.loop-record.invariant (omega arith) c.in-Pillar.link c.in-ok-record.after.now (rw c.in-Pillar.is at h.0) m.0 m.1)
+    let h = c.in_ok-record.ensures in
+    let m = c.in_ok-mark-in-Pillar.ensures in
+    rw m.2 (another c.loop-record.invariant (omega arith) c.in-Pillar.link c.in_ok-record.after.now (rw c.in-Pillar.is at h.0) m.0 m.1)

@@ -6,9 +6,9 @@ use Rattle.listing.proofs.plan.write_numbers.Goals as goal
 
 pub loop-i-preserved : goal.loop-i-preserved
 loop-i-preserved c =
-    number_more c.args.row.now c.args.out.now c.loop-i.i c.loop-i-test.true c.loop-i.out c.copy-from-slice.new.self
+    number_more c.args.row.now c.args.out.now c.loop-i.i c.loop-i-test.true c.loop-i.out c.copy_from_slice.new.self
     c.loop-i.invariant
-    (c.copy-from-slice.ensures.after ∙ c.number.ensures)
+    (c.copy_from_slice.ensures.after ∙ c.number.ensures)
 
 pub returns : goal.returns
 returns c =

@@ -20,10 +20,10 @@ slice-bounds-write-row-end-in-loop-row c =
 
 pub loop-row-preserved : goal.loop-row-preserved
 loop-row-preserved c =
-    line_more c.args.width c.loop-row.row c.args.bytes.now c.args.out.now c.requires.some c.loop-row.out c.write-row.new.out
+    line_more c.args.width c.loop-row.row c.args.bytes.now c.args.out.now c.requires.some c.loop-row.out c.write_row.new.out
     (omega (arith, row_within c.args.width c.args.rows c.loop-row.row c.loop-row-test.true))
     c.loop-row.invariant
-    c.write-row.ensures
+    c.write_row.ensures
 
 pub returns : goal.returns
 returns c =

@@ -8,8 +8,8 @@ use Rattle.routing.proofs.ties.list_nearest.Goals as goal
 pub loop-elevator-preserved : goal.loop-elevator-preserved
 loop-elevator-preserved c =
     let es = c.args.elevators.now in (
-      kept_more (candidate c.args.order c.args.place c.args.least c.args.late) es (take c.loop-elevator.count c.loop-elevator.room) (take c.keep-count.result c.keep-count.new.room) c.loop-elevator.elevator-index c.is-candidate.result
-          (omega arith) c.loop-elevator.invariant.0 c.is-candidate.ensures (c.keep-count.ensures.kept (omega arith)),
+      kept_more (candidate c.args.order c.args.place c.args.least c.args.late) es (take c.loop-elevator.count c.loop-elevator.room) (take c.keep-count.result c.keep-count.new.room) c.loop-elevator.elevator-index c.is_candidate.result
+          (omega arith) c.loop-elevator.invariant.0 c.is_candidate.ensures (c.keep-count.ensures.kept (omega arith)),
       omega (arith, c.keep-count.ensures.bound),
     )
 

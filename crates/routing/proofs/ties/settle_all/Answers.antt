@@ -17,8 +17,8 @@ loop-i-preserved g c =
     let way = c.args.way in
     let es = c.args.elevators.now in
     let ask = c.loop-i.chooser in
-    let place = c.place-at-place.ensures in
-    let points = c.pointing.ensures ∙ ap (pointing c.place-at-place.result) c.settle-elevator.ensures.settles ∙ ap (λ p. pointing p (target position after o z way es p ask)) place in
+    let place = c.place_at-place.ensures in
+    let points = c.pointing.ensures ∙ ap (pointing c.place_at-place.result) c.settle-elevator.ensures.settles ∙ ap (λ p. pointing p (target position after o z way es p ask)) place in
     tie_more c.loop-i.invariant (omega arith) c.with_half.result c.settle-elevator.new.chooser
     (c.with_half.ensures ∙ ap (with_half way (get_or c.loop-i.bytes c.loop-i.i 0)) points)
     (c.settle-elevator.ensures.goes ∙ ap (λ p. onward position after o z way es p ask) place)

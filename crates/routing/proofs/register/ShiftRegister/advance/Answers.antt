@@ -6,7 +6,7 @@ use Rattle.routing.proofs.register.ShiftRegister.advance.Goals as goal
 pub returns : goal.returns
 returns c =
     let old = c.args.self.now in
-    let next = c.next-state-state.ensures in
+    let next = c.next_state-state.ensures in
     let register = c.holding.ensures in
     record {
       value = next.shifts;
