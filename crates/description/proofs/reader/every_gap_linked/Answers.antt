@@ -6,8 +6,8 @@ use Rattle.description.proofs.Marks.{part_below}
 use Rattle.description.proofs.reader.every_gap_linked.Goals as goal
 use Rattle.std.proofs.lemmas.Bool.Decides.{Decides-eqb}
 
-pub slice-bounds-contains-end : goal.slice-bounds-contains-end
-slice-bounds-contains-end c = part_below c.args.sizes c.loop-gap.gap (omega arith) c.area-area.ensures c.requires
+pub slice_bounds-contains-end : goal.slice_bounds-contains-end
+slice_bounds-contains-end c = part_below c.args.sizes c.loop-gap.gap (omega arith) c.area-area.ensures c.requires
 
 pub returns-then-not-contains : goal.returns-then-not-contains
 returns-then-not-contains c = (

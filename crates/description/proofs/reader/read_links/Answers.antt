@@ -9,21 +9,21 @@ use Rattle.description.proofs.Steps.{unmarked}
 use Rattle.description.proofs.Stops.{not_listed, refused, unread}
 use Rattle.description.proofs.reader.read_links.Goals as goal
 
-pub overflow-sub-place : goal.overflow-sub-place
-overflow-sub-place c = omega (arith, simp length-append at (ap length c.loop-record.invariant.split))
+pub overflow_sub-place : goal.overflow_sub-place
+overflow_sub-place c = omega (arith, simp length-append at (ap length c.loop-record.invariant.split))
 
-pub returns-in-err-record : goal.returns-in-err-record
-returns-in-err-record c =
+pub returns-in_err-record : goal.returns-in_err-record
+returns-in_err-record c =
     exit
-    c.from-residual.result
+    c.from_residual.result
     _
     (Fails c.args.input.now)
-    c.from-residual.ensures.1
-    (unread c.loop-record.invariant.split c.loop-record.invariant.sound _ refl _ after_o c.in-err-record.ensures)
+    c.from_residual.ensures.1
+    (unread c.loop-record.invariant.split c.loop-record.invariant.sound _ refl _ after_o c.in_err-record.ensures)
 
-pub returns-in-default : goal.returns-in-default
-returns-in-default c =
-    let h = c.in-ok-record.ensures in
+pub returns-in_default : goal.returns-in_default
+returns-in_default c =
+    let h = c.in_ok-record.ensures in
     refused
     c.loop-record.invariant.split
     c.loop-record.invariant.sound
@@ -33,28 +33,28 @@ returns-in-default c =
     _
     _
     h.0
-    (first_place h.1 (not_listed c.in-default.not-Pillar c.in-default.not-End))
+    (first_place h.1 (not_listed c.in_default.not-Pillar c.in_default.not-End))
     refl
 
-pub returns-in-err-mark : goal.returns-in-err-mark
-returns-in-err-mark c =
-    let h = c.in-ok-record.ensures in
+pub returns-in_err-mark-in-Pillar : goal.returns-in_err-mark-in-Pillar
+returns-in_err-mark-in-Pillar c =
+    let h = c.in_ok-record.ensures in
     exit
-    c.from-residual-in-err-mark.result
+    c.from_residual-in_err-mark-in-Pillar.result
     _
     (Fails c.args.input.now)
-    c.from-residual-in-err-mark.ensures.1
+    c.from_residual-in_err-mark-in-Pillar.ensures.1
     (unmarked
     _
     _
     c.loop-record.invariant
     (omega arith)
     c.in-Pillar.link
-    c.in-ok-record.after.now
+    c.in_ok-record.after.now
     (rw c.in-Pillar.is at h.0)
     (rw c.in-Pillar.is at h.1)
     refl
-    c.in-err-mark.ensures)
+    c.in_err-mark-in-Pillar.ensures)
 
 pub loop-record-preserved : goal.loop-record-preserved
 loop-record-preserved c =

@@ -5,42 +5,42 @@ use Rattle.description.proofs.Exits.{exit}
 use Rattle.description.proofs.Unreads.{cut_short, no_kind, nothing_left, strange}
 use Rattle.description.proofs.records.whole_record.Goals as goal
 
-pub returns-in-err-kind : goal.returns-in-err-kind
-returns-in-err-kind c =
+pub returns-in_err-kind : goal.returns-in_err-kind
+returns-in_err-kind c =
     exit
-    c.from-residual.result
+    c.from_residual.result
     _
     (Unreadable c.args.input.now c.args.place)
-    c.from-residual.ensures.1
-    (nothing_left c.args.input.now c.args.place c.in-err-kind.field-0.0 c.in-err-kind.ensures)
+    c.from_residual.ensures.1
+    (nothing_left c.args.input.now c.args.place c.in_err-kind.field-0.0 c.in_err-kind.ensures)
 
-pub returns-in-err-extent : goal.returns-in-err-extent
-returns-in-err-extent c =
+pub returns-in_err-extent-in-S : goal.returns-in_err-extent-in-S
+returns-in_err-extent-in-S c =
     exit
-    c.from-residual-in-err-extent.result
+    c.from_residual-in_err-extent-in-S.result
     _
     (Unreadable c.args.input.now c.args.place)
-    c.from-residual-in-err-extent.ensures.1
-    (cut_short c.args.input.now c.args.place c.in-err-extent.field-0.0 kind_s c.in-S.is c.in-ok-kind.ensures c.in-err-extent.ensures)
+    c.from_residual-in_err-extent-in-S.ensures.1
+    (cut_short c.args.input.now c.args.place c.in_err-extent-in-S.field-0.0 kind_s c.in-S.is c.in_ok-kind.ensures c.in_err-extent-in-S.ensures)
 
-pub returns-in-err-sets : goal.returns-in-err-sets
-returns-in-err-sets c =
+pub returns-in_err-sets-in-O : goal.returns-in_err-sets-in-O
+returns-in_err-sets-in-O c =
     exit
-    c.from-residual-in-err-sets.result
+    c.from_residual-in_err-sets-in-O.result
     _
     (Unreadable c.args.input.now c.args.place)
-    c.from-residual-in-err-sets.ensures.1
-    (cut_short c.args.input.now c.args.place c.in-err-sets.field-0.0 kind_o c.in-O.is c.in-ok-kind.ensures c.in-err-sets.ensures)
+    c.from_residual-in_err-sets-in-O.ensures.1
+    (cut_short c.args.input.now c.args.place c.in_err-sets-in-O.field-0.0 kind_o c.in-O.is c.in_ok-kind.ensures c.in_err-sets-in-O.ensures)
 
-pub returns-in-err-link : goal.returns-in-err-link
-returns-in-err-link c =
+pub returns-in_err-link-in-L : goal.returns-in_err-link-in-L
+returns-in_err-link-in-L c =
     exit
-    c.from-residual-in-err-link.result
+    c.from_residual-in_err-link-in-L.result
     _
     (Unreadable c.args.input.now c.args.place)
-    c.from-residual-in-err-link.ensures.1
-    (cut_short c.args.input.now c.args.place c.in-err-link.field-0.0 kind_l c.in-L.is c.in-ok-kind.ensures c.in-err-link.ensures)
+    c.from_residual-in_err-link-in-L.ensures.1
+    (cut_short c.args.input.now c.args.place c.in_err-link-in-L.field-0.0 kind_l c.in-L.is c.in_ok-kind.ensures c.in_err-link-in-L.ensures)
 
-pub returns-in-default : goal.returns-in-default
-returns-in-default c =
-    strange c.args.input.now c.args.place c.in-ok-kind.ensures (no_kind (λ h. omega arith) (λ h. omega arith) (λ h. omega arith) (λ h. omega arith))
+pub returns-in_default : goal.returns-in_default
+returns-in_default c =
+    strange c.args.input.now c.args.place c.in_ok-kind.ensures (no_kind (λ h. omega arith) (λ h. omega arith) (λ h. omega arith) (λ h. omega arith))

@@ -7,8 +7,8 @@ use Rattle.house_rules.proofs.inner.list_inner.Goals as goal
 pub loop-elevator-preserved : goal.loop-elevator-preserved
 loop-elevator-preserved c =
     let s = c.args.sizes in (
-      kept_more (inner s.width s.height) c.args.elevators.now (take c.loop-elevator.count c.loop-elevator.room) (take c.keep-count.result c.keep-count.new.room) c.loop-elevator.elevator-index c.is-inner.result
-          (omega arith) c.loop-elevator.invariant.0 c.is-inner.ensures (c.keep-count.ensures.kept (omega arith)),
+      kept_more (inner s.width s.height) c.args.elevators.now (take c.loop-elevator.count c.loop-elevator.room) (take c.keep-count.result c.keep-count.new.room) c.loop-elevator.elevator-index c.is_inner.result
+          (omega arith) c.loop-elevator.invariant.0 c.is_inner.ensures (c.keep-count.ensures.kept (omega arith)),
       omega (arith, c.keep-count.ensures.bound),
     )
 

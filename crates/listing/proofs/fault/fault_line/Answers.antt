@@ -13,15 +13,15 @@ length_word Stack = lit≤ tt
 length_number : (n : ℕ) → n < 256 → length (decimal n) ≤ 3
 length_number n h = length-decimal-le 3 n (lit< tt) (omega arith) (omega arith)
 
-pub push-decimal-requires : goal.push-decimal-requires
-push-decimal-requires c = omega (arith, length_word c.layer.result, ap length c.word.ensures)
+pub push_decimal-requires : goal.push_decimal-requires
+push_decimal-requires c = omega (arith, length_word c.layer.result, ap length c.word.ensures)
 
 pub push-requires-2 : goal.push-requires-2
 push-requires-2 c =
     omega (arith, length_word c.layer.result, ap length c.word.ensures, length_number c.from.result (omega arith))
 
-pub push-decimal-requires-2 : goal.push-decimal-requires-2
-push-decimal-requires-2 c =
+pub push_decimal-requires-2 : goal.push_decimal-requires-2
+push_decimal-requires-2 c =
     omega (arith, length_word c.layer.result, ap length c.word.ensures, length_number c.from.result (omega arith))
 
 pub push-requires-3 : goal.push-requires-3

@@ -13,9 +13,9 @@ loop-i-preserved c =
     let n = c.area-area.result in
     let w = c.args.sizes.width in
     let h = c.args.sizes.height in (
-      listed_more w h c.args.sizes.some_columns c.args.sizes.some_rows c.args.map.now c.args.gap c.loop-i.i (c.args.gap * n) (c.args.gap * n + n) c.place-at.result
+      listed_more w h c.args.sizes.some_columns c.args.sizes.some_rows c.args.map.now c.args.gap c.loop-i.i (c.args.gap * n) (c.args.gap * n + n) c.place_at.result
           (take c.loop-i.count c.loop-i.room) (take c.keep-count.result c.keep-count.new.room)
-          (ap (λ m. c.args.gap * m) c.area-area.ensures) (omega arith) (omega (arith, whole (goal.at.loop-i-preserved c).After-area-area)) c.loop-i.invariant.0 c.place-at.ensures (c.keep-count.ensures.kept (omega (arith, whole (goal.at.loop-i-preserved c).After-area-area)) ∙ ap (λ b. take c.loop-i.count c.loop-i.room ++ cond b (c.place-at.result ∷ []) []) c.is-link.ensures),
+          (ap (λ m. c.args.gap * m) c.area-area.ensures) (omega arith) (omega (arith, whole (goal.at.loop-i-preserved c).After-area-area)) c.loop-i.invariant.0 c.place_at.ensures (c.keep-count.ensures.kept (omega (arith, whole (goal.at.loop-i-preserved c).After-area-area)) ∙ ap (λ b. take c.loop-i.count c.loop-i.room ++ cond b (c.place_at.result ∷ []) []) c.is_link.ensures),
       omega (arith, c.keep-count.ensures.bound),
     )
 

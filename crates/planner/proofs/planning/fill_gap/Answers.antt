@@ -27,14 +27,14 @@ elevators-list-requires g c =
       room = omega (arith, mul-le s.width s.height 24 24 s.few_columns s.few_rows);
     }
 
-pub fill-halves-requires : goal.fill-halves-requires
-fill-halves-requires g c =
+pub fill_halves-requires : goal.fill_halves-requires
+fill_halves-requires g c =
     let s = c.args.sizes in
     let n = s.width * s.height in
     record {
       inner = omega arith;
-      some = offered g (goal.at.fill-halves-requires g c).After-elevators-list;
-      few = subst (λ l. length l ≤ n) (sym (listed g (goal.at.fill-halves-requires g c).After-elevators-list)) (elevators_most s.width s.height s.some_columns s.some_rows c.args.map.now c.args.gap);
+      some = offered g (goal.at.fill_halves-requires g c).After-elevators-list;
+      few = subst (λ l. length l ≤ n) (sym (listed g (goal.at.fill_halves-requires g c).After-elevators-list)) (elevators_most s.width s.height s.some_columns s.some_rows c.args.map.now c.args.gap);
       low = omega (arith, plane_order n c.args.gap s.planes (omega arith), c.requires.fits);
       high = omega (arith, plane_order n (c.args.gap + 1) s.planes (omega arith), c.requires.fits);
     }

@@ -16,14 +16,14 @@ single n h = ap length (decimal_digit n h)
 twenty : (n : ℕ) → n < 2 ^ 64 → length (decimal n) ≤ 20
 twenty n h = length-decimal-le 20 n (lit< tt) (omega arith) h
 
-pub push-decimal-requires : goal.push-decimal-requires
-push-decimal-requires t c = (omega arith, c.requires)
+pub push_decimal-requires : goal.push_decimal-requires
+push_decimal-requires t c = (omega arith, c.requires)
 
 pub push-requires : goal.push-requires
 push-requires t c =
     elim c.if-number-ge10.branch [
       | then-number-ge10 w ↦
-          let e : c.if-number-ge10.self.len ≡ w.push-decimal.new.self.len = ap (λ (s : Line). s.len) w.self-is in
+          let e : c.if-number-ge10.self.len ≡ w.push_decimal.new.self.len = ap (λ (s : Line). s.len) w.self-is in
           omega (arith, longer c.args.number w.if-number-ge10.true c.ranges.number.fits, twenty c.args.number c.ranges.number.fits)
       | else-number-ge10 w ↦
           let e : c.if-number-ge10.self.len ≡ c.args.self.now.len = ap (λ (s : Line). s.len) w.self-is in
@@ -34,13 +34,13 @@ pub returns : goal.returns
 returns t c =
     elim c.if-number-ge10.branch [
       | then-number-ge10 w ↦
-          let e : c.if-number-ge10.self ≡ w.push-decimal.new.self = w.self-is in
-          let m : c.if-number-ge10.self.len ≡ w.push-decimal.new.self.len = ap (λ (s : Line). s.len) e in
+          let e : c.if-number-ge10.self ≡ w.push_decimal.new.self = w.self-is in
+          let m : c.if-number-ge10.self.len ≡ w.push_decimal.new.self.len = ap (λ (s : Line). s.len) e in
           record {
             text =
                 c.push.ensures.text
-                ∙ (λ i. said (e i) ++ c.last-digit.ensures i ∷ [])
-                ∙ ap (λ (u : List ℕ). u ++ (48 + c.args.number % 10) ∷ []) w.push-decimal.ensures.text
+                ∙ (λ i. said (e i) ++ c.last_digit.ensures i ∷ [])
+                ∙ ap (λ (u : List ℕ). u ++ (48 + c.args.number % 10) ∷ []) w.push_decimal.ensures.text
                 ∙ append_assoc (said c.args.self.now) (decimal (c.args.number / 10)) ((48 + c.args.number % 10) ∷ [])
                 ∙ ap (λ (u : List ℕ). said c.args.self.now ++ u) (sym (decimal_step c.args.number w.if-number-ge10.true c.ranges.number.fits));
             size = omega (arith, longer c.args.number w.if-number-ge10.true c.ranges.number.fits);
@@ -49,7 +49,7 @@ returns t c =
       | else-number-ge10 w ↦
           let e : c.if-number-ge10.self ≡ c.args.self.now = w.self-is in
           let m : c.if-number-ge10.self.len ≡ c.args.self.now.len = ap (λ (s : Line). s.len) e in
-          let d : c.last-digit.result ≡ 48 + c.args.number = omega (arith, w.if-number-ge10.false) in
+          let d : c.last_digit.result ≡ 48 + c.args.number = omega (arith, w.if-number-ge10.false) in
           record {
             text =
                 c.push.ensures.text
