@@ -84,8 +84,8 @@ pub fn move_packet<G: Guide>(
     buffer: u8,
     port: u8,
 ) -> Result<(), Refusal>
-    ensures answers { move_answer result ≡ (outcome (reply guide.now) (state sizes map.now bytes.now table.old) (Move router buffer port)).answer }
-    ensures leaves { table.new ≡ (outcome (reply guide.now) (state sizes map.now bytes.now table.old) (Move router buffer port)).after.table }
+    ensures answers { move_answer result ≡ (outcome (G.reply guide.now) (state sizes map.now bytes.now table.old) (Move router buffer port)).answer }
+    ensures leaves { table.new ≡ (outcome (G.reply guide.now) (state sizes map.now bytes.now table.old) (Move router buffer port)).after.table }
 {
     let step = checked_step(guide, sizes, map, bytes, table, router, buffer, port)?;
     table[step.from] = EMPTY;
@@ -103,7 +103,7 @@ pub fn ports<G: Guide>(
     router: Router,
     buffer: u8,
 ) -> Result<Ports, Refusal>
-    ensures { result ≡ ports_reply (reply guide.now) (state sizes map.now bytes.now table.now) router buffer }
+    ensures { result ≡ ports_reply (G.reply guide.now) (state sizes map.now bytes.now table.now) router buffer }
 {
     if let Some(refusal) = ports_refusal(sizes, map, bytes, table, router, buffer) {
         return Err(refusal);

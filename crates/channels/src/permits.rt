@@ -116,7 +116,7 @@ pub(crate) fn permitted_ports<G: Guide>(
     buffer: Buffer,
     record: Record,
 ) -> Ports
-    ensures { result ≡ permitted_ports (reply guide.now) (state sizes map.now bytes.now []) router buffer «record» }
+    ensures { result ≡ permitted_ports (G.reply guide.now) (state sizes map.now bytes.now []) router buffer «record» }
 {
     if same_router(router, record.destination) {
         return planar_only(nowhere());

@@ -153,7 +153,7 @@ pub(crate) fn checked_step<G: Guide>(
     buffer: u8,
     port: u8,
 ) -> Result<Step, Refusal>
-    ensures { MatchResult result (λ s. Steps (reply guide.now) (state sizes map.now bytes.now table.now) router buffer port s.from s.to s.packet) (λ x. move_refusal (reply guide.now) (state sizes map.now bytes.now table.now) router buffer port ≡ Some x) }
+    ensures { MatchResult result (λ s. Steps (G.reply guide.now) (state sizes map.now bytes.now table.now) router buffer port s.from s.to s.packet) (λ x. move_refusal (G.reply guide.now) (state sizes map.now bytes.now table.now) router buffer port ≡ Some x) }
 {
     if is_short(sizes, map, bytes, table) {
         return Err(Refusal::ShortBuffer);

@@ -21,8 +21,8 @@ pub fn start_run<C: Chooser, F: Filler<C>>(
     bytes: &mut [u8],
     table: &mut [Record],
 ) -> Result<(), Refusal>
-    ensures starts { Started (job sizes map.now (half filler.now) (next filler.now)) bytes.old chooser.old table.old bytes.new chooser.new table.new result }
-    ensures certified { Certain (Guide-as-Guide.reply (partner filler.now)) (state sizes map.now bytes.new table.new) result }
+    ensures starts { Started (job sizes map.now (F.half filler.now) (F.next filler.now)) bytes.old chooser.old table.old bytes.new chooser.new table.new result }
+    ensures certified { Certain (F.Guide.reply (F.partner filler.now)) (state sizes map.now bytes.new table.new) result }
 {
     if table.len() < table_size(sizes) {
         return Err(Refusal::ShortBuffer);
@@ -40,8 +40,8 @@ fn work<G: Guide>(
     table: &mut [Record],
     call: Call,
 ) -> Answer
-    ensures answers { result ≡ (outcome (reply guide.now) (state sizes map.now bytes.now table.old) call).answer }
-    ensures leaves { table.new ≡ (outcome (reply guide.now) (state sizes map.now bytes.now table.old) call).after.table }
+    ensures answers { result ≡ (outcome (G.reply guide.now) (state sizes map.now bytes.now table.old) call).answer }
+    ensures leaves { table.new ≡ (outcome (G.reply guide.now) (state sizes map.now bytes.now table.old) call).after.table }
 {
     match call {
         Call::Inject {
@@ -80,8 +80,8 @@ fn work_all<G: Guide>(
     answers: &mut [Answer],
 )
     requires { length calls.now ≤ length answers.old }
-    ensures leaves { table.new ≡ (ran (reply guide.now) (state sizes map.now bytes.now table.old) calls.now).table }
-    ensures replies { answers.new ≡ answered (reply guide.now) (state sizes map.now bytes.now table.old) calls.now ++ drop (length calls.now) answers.old }
+    ensures leaves { table.new ≡ (ran (G.reply guide.now) (state sizes map.now bytes.now table.old) calls.now).table }
+    ensures replies { answers.new ≡ answered (G.reply guide.now) (state sizes map.now bytes.now table.old) calls.now ++ drop (length calls.now) answers.old }
 {
     for (i, call) in calls.iter().enumerate() {
         answers[i] = work(guide, sizes, map, bytes, table, *call);
@@ -99,8 +99,8 @@ pub fn run_script<C: Chooser, F: Filler<C>>(
     calls: &[Call],
     answers: &mut [Answer],
 ) -> Result<(), Refusal>
-    ensures runs { Ran (job sizes map.now (half filler.now) (next filler.now)) (Guide-as-Guide.reply (partner filler.now)) calls.now bytes.old chooser.old table.old answers.old bytes.new chooser.new table.new answers.new result }
-    ensures certified { Certain (Guide-as-Guide.reply (partner filler.now)) (state sizes map.now bytes.new (clear_table sizes table.old)) result }
+    ensures runs { Ran (job sizes map.now (F.half filler.now) (F.next filler.now)) (F.Guide.reply (F.partner filler.now)) calls.now bytes.old chooser.old table.old answers.old bytes.new chooser.new table.new answers.new result }
+    ensures certified { Certain (F.Guide.reply (F.partner filler.now)) (state sizes map.now bytes.new (clear_table sizes table.old)) result }
 {
     if answers.len() < calls.len() {
         return Err(Refusal::ShortBuffer);

@@ -22,8 +22,8 @@ fn fill_plane<C: Chooser, F: Filler<C>>(
     requires some { 0 < length elevators.now }
     requires few { length elevators.now ≤ sizes.width * sizes.height }
     requires fits { plane * (sizes.width * sizes.height) + sizes.width * sizes.height ≤ length bytes.old }
-    ensures writes { bytes.new ≡ put_plane (sizes.width * sizes.height) plane way bytes.old (half filler.now (task sizes plane way elevators.now) chooser.old) }
-    ensures goes { chooser.new ≡ next filler.now (task sizes plane way elevators.now) chooser.old }
+    ensures writes { bytes.new ≡ put_plane (sizes.width * sizes.height) plane way bytes.old (F.half filler.now (task sizes plane way elevators.now) chooser.old) }
+    ensures goes { chooser.new ≡ F.next filler.now (task sizes plane way elevators.now) chooser.old }
 {
     let area = sizes.area();
     let start = usize::from(plane) * area;
@@ -51,8 +51,8 @@ fn fill_halves<C: Chooser, F: Filler<C>>(
     requires few { length elevators.now ≤ sizes.width * sizes.height }
     requires low { gap * (sizes.width * sizes.height) + sizes.width * sizes.height ≤ length bytes.old }
     requires high { (gap + 1) * (sizes.width * sizes.height) + sizes.width * sizes.height ≤ length bytes.old }
-    ensures writes { bytes.new ≡ put_plane (sizes.width * sizes.height) (gap + 1) Down (put_plane (sizes.width * sizes.height) gap Up bytes.old (half filler.now (task sizes gap Up elevators.now) chooser.old)) (half filler.now (task sizes (gap + 1) Down elevators.now) (next filler.now (task sizes gap Up elevators.now) chooser.old)) }
-    ensures goes { chooser.new ≡ next filler.now (task sizes (gap + 1) Down elevators.now) (next filler.now (task sizes gap Up elevators.now) chooser.old) }
+    ensures writes { bytes.new ≡ put_plane (sizes.width * sizes.height) (gap + 1) Down (put_plane (sizes.width * sizes.height) gap Up bytes.old (F.half filler.now (task sizes gap Up elevators.now) chooser.old)) (F.half filler.now (task sizes (gap + 1) Down elevators.now) (F.next filler.now (task sizes gap Up elevators.now) chooser.old)) }
+    ensures goes { chooser.new ≡ F.next filler.now (task sizes (gap + 1) Down elevators.now) (F.next filler.now (task sizes gap Up elevators.now) chooser.old) }
 {
     fill_plane(sizes, gap, Way::Up, elevators, filler, chooser, bytes);
     fill_plane(sizes, gap + 1, Way::Down, elevators, filler, chooser, bytes);
@@ -71,8 +71,8 @@ fn fill_gap<C: Chooser, F: Filler<C>>(
     requires whole { (sizes.planes - 1) * (sizes.width * sizes.height) ≤ length map.now }
     requires fits { length bytes.old ≡ sizes.planes * (sizes.width * sizes.height) }
     requires linked { Joined sizes.width sizes.height map.now gap }
-    ensures writes { bytes.new ≡ after_gap (job sizes map.now (half filler.now) (next filler.now)) chooser.old gap bytes.old }
-    ensures goes { chooser.new ≡ chooser_after (job sizes map.now (half filler.now) (next filler.now)) chooser.old gap }
+    ensures writes { bytes.new ≡ after_gap (job sizes map.now (F.half filler.now) (F.next filler.now)) chooser.old gap bytes.old }
+    ensures goes { chooser.new ≡ chooser_after (job sizes map.now (F.half filler.now) (F.next filler.now)) chooser.old gap }
 {
     let mut room = [Place { x: 0, y: 0 }; MOST];
     let list = elevators(sizes, map, usize::from(gap), &mut room);
@@ -96,8 +96,8 @@ fn fill_gaps<C: Chooser, F: Filler<C>>(
     requires whole { (sizes.planes - 1) * (sizes.width * sizes.height) ≤ length map.now }
     requires fits { length bytes.old ≡ sizes.planes * (sizes.width * sizes.height) }
     requires linked { (g : ℕ) → g < sizes.planes - 1 → Joined sizes.width sizes.height map.now g }
-    ensures writes { bytes.new ≡ planned (job sizes map.now (half filler.now) (next filler.now)) chooser.old }
-    ensures goes { chooser.new ≡ begun (job sizes map.now (half filler.now) (next filler.now)) chooser.old (sizes.planes - 1) }
+    ensures writes { bytes.new ≡ planned (job sizes map.now (F.half filler.now) (F.next filler.now)) chooser.old }
+    ensures goes { chooser.new ≡ begun (job sizes map.now (F.half filler.now) (F.next filler.now)) chooser.old (sizes.planes - 1) }
 {
     erase(bytes);
     for gap in 0..sizes.planes - 1 {
@@ -113,7 +113,7 @@ pub fn plan<C: Chooser, F: Filler<C>>(
     chooser: &mut C,
     bytes: &mut [u8],
 ) -> Result<(), Refusal>
-    ensures { Planned (job sizes map.now (half filler.now) (next filler.now)) bytes.old chooser.old bytes.new chooser.new result }
+    ensures { Planned (job sizes map.now (F.half filler.now) (F.next filler.now)) bytes.old chooser.old bytes.new chooser.new result }
 {
     let routers = sizes.routers();
     if map.len() < (usize::from(sizes.planes) - 1) * sizes.area() || bytes.len() < routers {

@@ -49,6 +49,6 @@ returns g c =
     let ask = c.args.chooser.now in
     let es = listed g (goal.at.returns g c).After-elevators-list in
     record {
-      writes = c.fill-halves.ensures.writes ∙ ap (λ l. put_plane n (gap + 1) Down (put_plane n gap Up c.args.bytes.now (half (task s gap Up l) ask)) (half (task s (gap + 1) Down l) (next (task s gap Up l) ask))) es;
-      goes = c.fill-halves.ensures.goes ∙ ap (λ l. next (task s (gap + 1) Down l) (next (task s gap Up l) ask)) es;
+      writes = c.fill_halves.ensures.writes ∙ ap (λ l. put_plane n (gap + 1) Down (put_plane n gap Up c.args.bytes.now (half (task s gap Up l) ask)) (half (task s (gap + 1) Down l) (next (task s gap Up l) ask))) es;
+      goes = c.fill_halves.ensures.goes ∙ ap (λ l. next (task s (gap + 1) Down l) (next (task s gap Up l) ask)) es;
     }

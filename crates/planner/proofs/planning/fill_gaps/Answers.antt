@@ -17,8 +17,8 @@ loop-gap-preserved g c =
     let gap = c.loop-gap.gap in
     let fit : Fitting j = record { long = g.met.F.Filler.long f; small = g.met.F.Filler.small f } in
     let state = c.loop-gap.invariant.1 in (
-      subst (Holds j ask (gap + 1)) (sym (c.fill-gap.ensures.writes ∙ ap (λ a. after_gap j a gap c.loop-gap.bytes) state)) (holds_more j ask fit gap (omega arith) c.loop-gap.bytes c.loop-gap.invariant.0),
-      c.fill-gap.ensures.goes ∙ ap (λ a. chooser_after j a gap) state ∙ ap (begun j ask) (sym (add-one gap)),
+      subst (Holds j ask (gap + 1)) (sym (c.fill_gap.ensures.writes ∙ ap (λ a. after_gap j a gap c.loop-gap.bytes) state)) (holds_more j ask fit gap (omega arith) c.loop-gap.bytes c.loop-gap.invariant.0),
+      c.fill_gap.ensures.goes ∙ ap (λ a. chooser_after j a gap) state ∙ ap (begun j ask) (sym (add-one gap)),
     )
 
 pub returns : goal.returns
