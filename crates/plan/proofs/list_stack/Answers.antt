@@ -5,15 +5,15 @@ use Rattle.listing.specs.Text.{plan_text}
 use Rattle.plan.proofs.Served.{long_enough, plan_front}
 use Rattle.plan.proofs.list_stack.Goals as goal
 
-pub returns-in-err-plan : goal.returns-in-err-plan
-returns-in-err-plan c =
+pub returns-in_err-plan : goal.returns-in_err-plan
+returns-in_err-plan c =
     absurd (⊎_elim
     (λ s. long_enough c.args.description.sizes c.args.map.now (replicate 4608 0) c.requires.whole (omega (arith, length-replicate {A = ℕ} 4608 0)) s.0)
     (λ u. u.1.2 (c.requires.linked u.1.0 u.1.1))
-    c.in-err-plan.ensures.0)
+    c.in_err-plan.ensures.0)
 
 pub returns : goal.returns
 returns c =
     let s = c.args.description.sizes in
-    let front = plan_front s c.args.map.now c.plan.new.bytes _ c.routers.result c.in-ok-plan.ensures.2 c.routers.ensures in
-    subst (λ b. Listed (plan_text s b) c.args.out.now c.list-plan.new.out c.list-plan.result) front.0 (c.list-plan.ensures.listed front.1)
+    let front = plan_front s c.args.map.now c.plan.new.bytes _ c.routers.result c.in_ok-plan.ensures.2 c.routers.ensures in
+    subst (λ b. Listed (plan_text s b) c.args.out.now c.list_plan.new.out c.list_plan.result) front.0 (c.list_plan.ensures.listed front.1)
