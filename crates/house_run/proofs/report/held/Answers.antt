@@ -7,8 +7,8 @@ use Rattle.house_run.proofs.report.held.Goals as goal
 
 pub loop-record-preserved : goal.loop-record-preserved
 loop-record-preserved c =
-    counted_more holds c.args.table.now c.loop-record.record-index _ c.loop-record.number c.from_number.result c.loop-record-test.true c.loop-record.invariant.0 c.loop-record.invariant.1
-    (c.from_number.ensures ∙ ap bool_byte c.is-held.ensures)
+    counted_more holds c.args.table.now c.loop-record.record-index _ c.loop-record.number c.from-number.result c.loop-record-test.true c.loop-record.invariant.0 c.loop-record.invariant.1
+    (c.from-number.ensures ∙ ap bool_byte c.is_held.ensures)
 
 pub returns : goal.returns
 returns c = c.loop-record.invariant.0 ∙ ap (count_by holds) (take_all c.loop-record.record-index c.args.table.now c.loop-record-test.false)

@@ -8,7 +8,7 @@ loop-answer-preserved c =
     let answers = c.args.answers.now in
     let i = c.loop-answer.answer-index in
     let n = c.loop-answer.most in
-    ap (λ m. fold longer m (drop (i + 1) answers)) (c.max-most.ensures ∙ ap (max n) c.moves-of.ensures) ∙ sym (at_drop_more (fold longer n) answers i _ (omega arith)) ∙ c.loop-answer.invariant
+    ap (λ m. fold longer m (drop (i + 1) answers)) (c.max-most.ensures ∙ ap (max n) c.moves_of.ensures) ∙ sym (at_drop_more (fold longer n) answers i _ (omega arith)) ∙ c.loop-answer.invariant
 
 pub returns : goal.returns
 returns c =

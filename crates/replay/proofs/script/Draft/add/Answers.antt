@@ -13,17 +13,17 @@ at d stage = record { stage = stage; description = d.description; calls = d.call
 pub returns-in-Stack-Stack : goal.returns-in-Stack-Stack
 returns-in-Stack-Stack c =
     let d = c.args.self.now in
-    added c.spell.result d (at d stages.Order) c.spell.new.self c.in-Stack-Stack.is-0 c.in-Stack-Stack.is-1 stack refl refl refl c.stack-record.ensures c.spell.ensures
+    added c.spell.result d (at d stages.Order) c.spell.new.self c.in-Stack-Stack.is-0 c.in-Stack-Stack.is-1 stack refl refl refl c.stack_record.ensures c.spell.ensures
 
 pub returns-in-Order-Order : goal.returns-in-Order-Order
 returns-in-Order-Order c =
     let d = c.args.self.now in
-    added c.spell-in-Order-Order.result d (at d stages.Links) c.spell-in-Order-Order.new.self c.in-Order-Order.is-0 c.in-Order-Order.is-1 order refl refl refl c.order-record.ensures c.spell-in-Order-Order.ensures
+    added c.spell-in-Order-Order.result d (at d stages.Links) c.spell-in-Order-Order.new.self c.in-Order-Order.is-0 c.in-Order-Order.is-1 order refl refl refl c.order_record.ensures c.spell-in-Order-Order.ensures
 
 pub returns-in-Links-Link : goal.returns-in-Links-Link
 returns-in-Links-Link c =
     let d = c.args.self.now in
-    added c.spell-in-Links-Link.result d d c.spell-in-Links-Link.new.self c.in-Links-Link.is-0 c.in-Links-Link.is-1 link c.in-Links-Link.is-0 refl refl c.link-record.ensures c.spell-in-Links-Link.ensures
+    added c.spell-in-Links-Link.result d d c.spell-in-Links-Link.new.self c.in-Links-Link.is-0 c.in-Links-Link.is-1 link c.in-Links-Link.is-0 refl refl c.link_record.ensures c.spell-in-Links-Link.ensures
 
 pub returns-in-Links-Plan : goal.returns-in-Links-Plan
 returns-in-Links-Plan c =
