@@ -18,5 +18,5 @@ returns-in-Err c =
     let h = c.in-Err.ensures in
     subst (NoTie c.args.number c.args.state) (sym h.0) (subst (λ n. NoTie n c.args.state ZeroState) (sym c.in-2.is) (zero h.1))
 
-pub returns-in-default : goal.returns-in-default
-returns-in-default c = unknown (omega arith)
+pub returns-in_default : goal.returns-in_default
+returns-in_default c = unknown (omega arith)
