@@ -46,10 +46,10 @@ fn refused(rt: &impl Abort, input: &[u8], number: u8, place: usize) -> Result<()
     let Err(fault) = read(input, &mut map) else {
         return Err(Fail::new("accepted"));
     };
-    assert_eq!(rt; fault.refusal().number(), number);
-    assert_eq!(rt; fault.place(), place);
-    assert!(rt; fits(fault.layer(), number), "layer");
-    assert!(rt; all(&map, 0), "map");
+    assert_eq!(rt; fault.refusal().number(), number, "number of {input:?}");
+    assert_eq!(rt; fault.place(), place, "place of {input:?}");
+    assert!(rt; fits(fault.layer(), number), "layer of {input:?}");
+    assert!(rt; all(&map, 0), "map of {input:?}");
     Ok(())
 }
 
@@ -156,20 +156,20 @@ const OTHERS: [(&[u8], u8, usize); 22] = [
 #[test]
 fn refusals_by_number_and_place(rt: HostRuntime) -> Result<(), Fail> {
     for (input, place) in OUT_OF_RANGE {
-        refused(&rt, input, 3, place).note(format_args!("{input:?}"))?;
+        refused(&rt, input, 3, place)?;
     }
     for (input, place) in OUT_OF_PLACE {
-        refused(&rt, input, 4, place).note(format_args!("{input:?}"))?;
+        refused(&rt, input, 4, place)?;
     }
     for (input, number, place) in OTHERS {
-        refused(&rt, input, number, place).note(format_args!("{input:?}"))?;
+        refused(&rt, input, number, place)?;
     }
     Ok(())
 }
 
 fn cuts_are_refused(rt: &impl Abort, sample: &[u8]) -> Result<(), Fail> {
     for len in 0..sample.len() {
-        refused(rt, &sample[0..len], 1, unfinished(len)).note(len)?;
+        refused(rt, &sample[0..len], 1, unfinished(len))?;
     }
     Ok(())
 }
@@ -191,10 +191,10 @@ fn letter_number(letter: u8) -> u8 {
 #[test]
 fn every_byte_first_and_after_the_end(rt: HostRuntime) -> Result<(), Fail> {
     for letter in 0..=255u8 {
-        refused(&rt, &[letter], letter_number(letter), 0).note(letter)?;
+        refused(&rt, &[letter], letter_number(letter), 0)?;
         let mut input = [letter; 19];
         input[0..18].copy_from_slice(SAMPLE);
-        refused(&rt, &input, 4, 18).note(letter)?;
+        refused(&rt, &input, 4, 18)?;
     }
     Ok(())
 }
