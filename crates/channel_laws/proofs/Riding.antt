@@ -18,7 +18,6 @@ use Rattle.mesh.specs.Compass.{gap}
 use Rattle.mesh.specs.Halves.{half}
 use Rattle.mesh.specs.Layout.{Inside, cell}
 use Rattle.routing_laws.specs.Chains.{Chain, Ended, Next, Permits, Plane, Rules, Starts, Told, back, half_at, longest, move, plane_of, start, tell, told}
-use Rattle.routing_laws.specs.Elevators.{elevators}
 use Rattle.routing_laws.specs.Filling.{plane}
 use Rattle.routing_laws.proofs.Listing.{all_listed, cell_below, joined_some}
 use Rattle.routing_laws.proofs.Planes.{plane_order}

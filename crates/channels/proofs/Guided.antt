@@ -1,12 +1,11 @@
 -- A stack that is planned by a filler, with the guide of that filler, is one that the certificate speaks of; so the
 -- certificate holds once the table is clear.
-use Rattle.std.proofs.Common.{◌≡◌, ℕ, ◌+◌, ◌-◌, ◌*◌, ◌<◌, ◌≤◌, false, ◌||◌, ltb, List, [], ◌++◌, map, length, replicate, Ok, sym, ap, ◌∙◌, subst, arith, length-append}
+use Rattle.std.proofs.Common.{◌≡◌, ℕ, ◌+◌, ◌*◌, ◌<◌, ◌≤◌, false, ◌||◌, ltb, List, [], ◌++◌, map, length, replicate, Ok, sym, ap, ◌∙◌, subst, arith, length-append}
 use Rattle.std.specs.List.{ContainsAt as Has}
 use Rattle.std.proofs.lemmas.Nat.{mul-le}
 use Rattle.std.proofs.lemmas.List.FromFn.{length-map-range_with_len}
 use Rattle.std.proofs.lemmas.Bool.{le-ltb}
 use Rattle.mesh.specs.declared.compass.Directions.{Directions}
-use Rattle.mesh.specs.declared.compass.Way.{Way}
 use Rattle.mesh.specs.declared.compass.Way.TheVariants.{Up, Down}
 use Rattle.mesh.specs.declared.grid.Place.{Place}
 use Rattle.mesh.specs.Halves.{half}

@@ -11,7 +11,7 @@ use Rattle.mesh.specs.declared.turns.TurnOrder.{TurnOrder}
 use Rattle.description_laws.specs.declared.records.Extent.{Extent}
 use Rattle.description_laws.specs.declared.records.Record.TheVariants.{Order, Pillar, Stack}
 use Rattle.description_laws.specs.declared.records.SetNumbers.{SetNumbers}
-use Rattle.description_laws.specs.Description.{Gap, InRange, Linked, Once, Sound, Within, listing, spelled, spelled_links, text}
+use Rattle.description_laws.specs.Description.{InRange, Linked, Once, Sound, Within, spelled, spelled_links}
 use Rattle.description.specs.declared.reader.Description.{Description}
 use Rattle.description.specs.Reading.{Marked, Reading, Shown, extent_of, sets_of, spot}
 use Rattle.description.proofs.Spots.{gap_below, inner, inner_below, own_gap, same_link, spot_below, spot_inner}

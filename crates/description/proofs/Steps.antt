@@ -1,5 +1,5 @@
 -- The steps of a reading: from sizes and order to the first link, and from link to link.
-use Rattle.std.proofs.Common.{◌≡◌, ℕ, ◌-◌, ◌≤◌, ◌⊎◌, List, [], ◌∷◌, ◌++◌, length, get_or, replicate, sym, refl, ap, ◌∙◌, subst, ⊎_elim, append_assoc, arith}
+use Rattle.std.proofs.Common.{◌≡◌, ℕ, ◌-◌, ◌≤◌, ◌⊎◌, List, [], ◌++◌, length, get_or, replicate, sym, refl, ap, subst, ⊎_elim, arith}
 use Rattle.mesh.specs.declared.grid.Link.{Link}
 use Rattle.mesh.specs.declared.refusals.Refusal.TheVariants.{LinkOutside, LinkTwice}
 use Rattle.mesh.specs.declared.stack.Sizes.{Sizes}

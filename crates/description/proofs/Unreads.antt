@@ -1,5 +1,5 @@
 -- The faults of the byte and record layers.
-use Rattle.std.proofs.Common.{◌≡◌, ℕ, ◌<◌, List, [], ◌∷◌, ◌++◌, length, refl}
+use Rattle.std.proofs.Common.{◌≡◌, ℕ, ◌<◌, List, ◌∷◌, ◌++◌, length, refl}
 use Rattle.std.proofs.lemmas.List.{nil_from_length}
 use Rattle.mesh.specs.declared.refusals.Refusal.TheVariants.{OutOfRange, UnknownLetter}
 use Rattle.description_laws.specs.declared.faults.ByteFault.{ByteFault}

@@ -1,6 +1,6 @@
 -- The guide that looks at the destination keeps the rules: it permits less than the pointing guide, and still something.
 use Rattle.std.specs.Prelude.{◌≡◌, ℕ, ◌<◌, Bool, true, false, cond, ◌||◌, List, [], ◌∷◌, refl}
-use Rattle.std.proofs.Common.{sym, arith}
+use Rattle.std.proofs.Common.{arith}
 use Rattle.std.specs.List.{ContainsAt as Has}
 use Rattle.std.proofs.lemmas.Bool.{and_parts, false≢true}
 use Rattle.mesh.specs.declared.compass.Direction.{Direction}
@@ -14,7 +14,7 @@ use Rattle.routing_laws.specs.Chains.{Rules, Told, plane_of}
 use Rattle.routing_laws.specs.Guides.{both, pointing_reply}
 use Rattle.routing_laws.proofs.Lawful.{none_lawful}
 use Rattle.routing_laws.proofs.Pointing.{pointing_rules}
-use Rattle.house_rules.specs.Guiding.{lawful_for, leaning, some_direction, toward_reply}
+use Rattle.house_rules.specs.Guiding.{lawful_for, some_direction, toward_reply}
 use Rattle.house_rules.specs.Narrowing.{narrowed_rules}
 
 -- what two sets share is in the first

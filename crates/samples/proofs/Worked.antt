@@ -1,5 +1,5 @@
 -- The worked samples, by computation.
-use Rattle.std.proofs.Common.{◌≡◌, true, map, is_ok, Ok, Err, Result, sym, refl, ap, ◌∙◌, arith, lit≤}
+use Rattle.std.proofs.Common.{◌≡◌, true, map, is_ok, Ok, Err, Result, refl, ap, arith, lit≤}
 use Rattle.mesh.specs.declared.refusals.Refusal.{Refusal}
 use Rattle.mesh.specs.declared.refusals.Refusal.TheVariants.{OneSet}
 use Rattle.mesh.specs.declared.turns.TurnOrder.{TurnOrder}

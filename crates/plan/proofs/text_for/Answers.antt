@@ -1,4 +1,3 @@
-use Rattle.std.proofs.Common.{length, drop}
 use Rattle.plan.proofs.Served.{front_says}
 use Rattle.plan.proofs.text_for.Goals as goal
 

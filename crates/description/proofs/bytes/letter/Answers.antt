@@ -1,4 +1,4 @@
-use Rattle.std.proofs.Common.{◌≡◌, arith, ltb-false, ltb-true, eqb-true, leb-true}
+use Rattle.std.proofs.Common.{arith, ltb-false, ltb-true, eqb-true, leb-true}
 use borrow.Author.Tests.{eqb-false}
 use Rattle.description.proofs.Splits.{parted}
 use Rattle.description.proofs.bytes.letter.Goals as goal

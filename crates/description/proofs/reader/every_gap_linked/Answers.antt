@@ -1,5 +1,4 @@
-use Rattle.std.proofs.Common.{eqb, List, arith, below_more}
-use Rattle.std.specs.List.{between}
+use Rattle.std.proofs.Common.{eqb, arith, below_more}
 use Rattle.std.proofs.lemmas.List.Elements.{contains_decides}
 use Rattle.std.proofs.lemmas.Bool.{both_ways}
 use Rattle.description.proofs.Marks.{part_below}

@@ -1,4 +1,3 @@
-use Rattle.std.proofs.Common.{arith}
 use Rattle.description.proofs.Marks.{index_below}
 use Rattle.description.proofs.reader.mark.Goals as goal
 

@@ -1,6 +1,5 @@
-use Rattle.std.proofs.Common.{◌≡◌, ◌++◌, length, refl, ap, ◌∙◌, arith, length-append}
-use Rattle.description_laws.specs.declared.records.Record.{Record}
-use Rattle.description_laws.specs.Description.{after_o, spelled}
+use Rattle.std.proofs.Common.{length, refl, ap, arith, length-append}
+use Rattle.description_laws.specs.Description.{after_o}
 use Rattle.description_laws.proofs.Firsts.{first_place}
 use Rattle.description.specs.Reading.{Fails}
 use Rattle.description.proofs.Exits.{exit}

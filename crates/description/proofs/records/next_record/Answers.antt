@@ -1,4 +1,3 @@
-use Rattle.std.proofs.Common.{arith}
 use Rattle.std.proofs.lemmas.Bool.{both_ways}
 use Rattle.description.proofs.Unreads.{out_of_range}
 use Rattle.description.proofs.records.next_record.Goals as goal

@@ -1,7 +1,6 @@
-use Rattle.std.proofs.Common.{get_or, sym, ap, ◌∙◌, arith}
+use Rattle.std.proofs.Common.{sym, ap, ◌∙◌, arith}
 use Rattle.std.proofs.lemmas.List.{take_all}
-use Rattle.routing_laws.specs.Elevators.{origin}
-use Rattle.routing_laws.specs.Optimistic.{compass, joined, sighted}
+use Rattle.routing_laws.specs.Optimistic.{compass, joined}
 use Rattle.routing_laws.proofs.Compass.{compass_more}
 use Rattle.routing.proofs.optimistic.look.Goals as goal
 

@@ -1,6 +1,5 @@
-use Rattle.std.proofs.Common.{◌+◌, get_or, take, filter, sym, ap, ◌∙◌, arith}
+use Rattle.std.proofs.Common.{take, filter, ap, ◌∙◌, arith}
 use Rattle.std.proofs.lemmas.List.{take_all}
-use Rattle.routing_laws.specs.Elevators.{origin}
 use Rattle.routing_laws.specs.Ties.{candidate}
 use Rattle.routing_laws.proofs.Ties.{kept_more}
 use Rattle.routing.proofs.ties.list_nearest.Goals as goal
