@@ -1,6 +1,6 @@
 -- The compass of a place: each direction exactly where such an elevator exists.
 use Rattle.std.proofs.Common.{◌≡◌, ℕ, ◌+◌, ◌*◌, ◌<◌, Bool, true, false, ◌&&◌, ◌||◌, eqb, ltb, List, [], ◌∷◌, ◌++◌, length, get_or, take, Decides, sym, refl, ap, ◌∙◌, subst}
-use Rattle.std.specs.List.{HoldsAt, ContainsAt as Has, AllByRecursion as All}
+use Rattle.std.specs.List.{HoldsAt, ContainsAt as Has, AllByRecursion}
 use Rattle.std.proofs.ByRecursion.{has_get_or}
 use Rattle.std.proofs.lemmas.List.{take_more}
 use Rattle.std.proofs.lemmas.Bool.Decides.{Decides-and, Decides-by_or, Decides-eqb, Decides-like, Decides-ltb}
@@ -54,5 +54,5 @@ compass_more es p i l = λ k. record {
 pub open_long : (w h : ℕ) (es : List Place) → length (open_half w h es) ≡ w * h
 open_long w h es = places_long (λ p. pack (compass es p)) w h
 
-pub open_small : (w h : ℕ) (es : List Place) → All (λ v. v < 16) (open_half w h es)
+pub open_small : (w h : ℕ) (es : List Place) → AllByRecursion (λ v. v < 16) (open_half w h es)
 open_small w h es = places_small (λ p. pack (compass es p)) w h (λ p. pack_small (compass es p))

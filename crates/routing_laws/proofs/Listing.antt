@@ -1,6 +1,6 @@
 -- The list of elevators: exactly the links, each once, in row order.
 use Rattle.std.proofs.Common.{◌≡◌, ℕ, zero, suc, ◌+◌, ◌-◌, ◌*◌, ◌/◌, ◌%◌, ◌<◌, ◌≤◌, Bool, true, cond, not, eqb, List, [], ◌∷◌, ◌++◌, map, length, get_or, take, drop, filter, sym, refl, ap, ◌∙◌, mod-eq_of_lt, mul_assoc, mul_comm, add-mul, zero-add, zero-mul, arith, length-drop}
-use Rattle.std.specs.List.{range_with_len, ContainsAt as Has, AllByRecursion as All}
+use Rattle.std.specs.List.{range_with_len, ContainsAt as Has, AllByRecursion}
 use Rattle.std.proofs.lemmas.Nat.{div-add-mod', div_below, div-mul-add, mod_below, mod-mul-add, mul-add-lt}
 use Rattle.std.proofs.lemmas.List.FromFn.{get_or-map-range_with_len, length-map-range_with_len}
 use Rattle.std.proofs.lemmas.List.Elements.{filter_more}
@@ -36,7 +36,7 @@ part_long xs a n l = length-take-le (a + n - a) (drop a xs) (simp length-drop (o
 -- each before all that follow it, by a key
 abbrev Rises : {X : Type 0} → (X → ℕ) → List X → Type 0
 Rises key [] = Unit {0}
-Rises key (x ∷ xs) = All (λ y. key x < key y) xs × Rises key xs
+Rises key (x ∷ xs) = AllByRecursion (λ y. key x < key y) xs × Rises key xs
 
 kept_rises : {X : Type 0} (key : X → ℕ) (t : X → Bool) (xs : List X) → Rises key xs → Rises key (filter t xs)
 kept_rises key t [] r = tt
@@ -83,11 +83,11 @@ module _ (w h : ℕ) (some_columns : 0 < w) (some_rows : 0 < h) where
     λ d. get_or-map-range_with_len (place_at w h) 0 (w * h) (cell w h 0 p) (cell w h 0 p) d (cell_below p q) (omega arith) ∙ place_cell 0 p q,
   )
 
-  pub all_inside : (a n : ℕ) → All (Inside w h) (map (place_at w h) (range_with_len a n))
+  pub all_inside : (a n : ℕ) → AllByRecursion (Inside w h) (map (place_at w h) (range_with_len a n))
   all_inside a zero = tt
   all_inside a (suc n) = (place_inside a, all_inside (a + 1) n)
 
-  later : (a b n : ℕ) → a < b → b + n ≤ w * h → All (λ p. cell w h 0 (place_at w h a) < cell w h 0 p) (map (place_at w h) (range_with_len b n))
+  later : (a b n : ℕ) → a < b → b + n ≤ w * h → AllByRecursion (λ p. cell w h 0 (place_at w h a) < cell w h 0 p) (map (place_at w h) (range_with_len b n))
   later a b zero l m = tt
   later a b (suc n) l m = (omega (arith, cell_place a (omega arith), cell_place b (omega arith)), later a (b + 1) n (omega arith) (omega arith))
 

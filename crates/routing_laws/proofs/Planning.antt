@@ -1,7 +1,7 @@
 -- Planning gap by gap: what the bytes hold after each gap, and at the end.
 use Rattle.std.proofs.Common.{◌≡◌, ℕ, zero, suc, ◌+◌, ◌*◌, ◌/◌, ◌%◌, ◌<◌, ◌≤◌, cond, ltb, List, ◌++◌, map, length, get_or, drop, replicate, sym, refl, ap, ◌∙◌, ⊎_elim, add-one, arith, length-append, length-drop}
 use lib.ListN.{length-map, length-replicate}
-use Rattle.std.specs.List.{AllByRecursion as All}
+use Rattle.std.specs.List.{AllByRecursion}
 use Rattle.std.proofs.lemmas.Nat.{div-add-mod', div_below, div-mul-add, mod_below, mod-mul-add}
 use Rattle.std.proofs.lemmas.List.FromFn.{fill_by_all, get_or-map-range_with_len, length-map-range_with_len}
 use Rattle.std.proofs.ByRecursion.{All-get_or}
@@ -58,7 +58,7 @@ module _ (up down : ℕ → ℕ → ℕ) where
 -- the laws of a filler that planning needs
 pub record Fitting {C : Type 0} (j : Job C) : Type 0 where
   pub long : (t : Task) (c : C) → length (j.half t c) ≡ t.width * t.height
-  pub small : (t : Task) (c : C) → All (λ v. v < 16) (j.half t c)
+  pub small : (t : Task) (c : C) → AllByRecursion (λ v. v < 16) (j.half t c)
 
 -- the bytes with n gaps planned
 pub record Holds {C : Type 0} (j : Job C) (c : C) (n : ℕ) (bytes : List ℕ) : Type 0 where

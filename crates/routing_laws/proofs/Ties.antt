@@ -1,6 +1,6 @@
 -- Random-offline: the candidates are exactly those that its rule names, and how its loops find them.
 use Rattle.std.proofs.Common.{◌≡◌, ℕ, zero, suc, ◌+◌, ◌*◌, ◌<◌, ◌≤◌, min, Bool, true, false, cond, eqb, leb, ◌⊎◌, List, [], ◌∷◌, ◌++◌, length, get_or, take, set, fold, filter, sym, refl, ap, ◌∙◌, subst, subst₂, inl, inr, ⊎_elim, arith}
-use Rattle.std.specs.List.{ContainsAt as Has, AllByRecursion as All}
+use Rattle.std.specs.List.{ContainsAt as Has, AllByRecursion}
 use Rattle.std.proofs.lemmas.List.FromFn.{length-map-range_with_len}
 use Rattle.std.proofs.lemmas.List.Elements.{filter_more}
 use Rattle.std.proofs.ByRecursion.{has_append_right, has_get_or}
@@ -172,7 +172,7 @@ filled_long : {C : Type 0} (point : Place → C → ℕ) (step : Place → C →
 filled_long point step [] c = refl
 filled_long point step (p ∷ ps) c = ap suc (filled_long point step ps (step p c))
 
-filled_small : {C : Type 0} (point : Place → C → ℕ) (step : Place → C → C) → ((p : Place) (c : C) → point p c < 16) → (ps : List Place) (c : C) → All (λ v. v < 16) (filled point step ps c)
+filled_small : {C : Type 0} (point : Place → C → ℕ) (step : Place → C → C) → ((p : Place) (c : C) → point p c < 16) → (ps : List Place) (c : C) → AllByRecursion (λ v. v < 16) (filled point step ps c)
 filled_small point step small [] c = tt
 filled_small point step small (p ∷ ps) c = (small p c, filled_small point step small ps (step p c))
 
@@ -180,5 +180,5 @@ module _ {C : Type 0} (position : C → Asked → ℕ) (after : C → Asked → 
   pub tie_long : length (tie_half position after o t c) ≡ t.width * t.height
   tie_long = filled_long _ _ (places t.width t.height) c ∙ length-map-range_with_len (place_at t.width t.height) 0 (t.width * t.height)
 
-  pub tie_small : All (λ v. v < 16) (tie_half position after o t c)
+  pub tie_small : AllByRecursion (λ v. v < 16) (tie_half position after o t c)
   tie_small = filled_small _ _ (λ p d. pack_small (toward p (target position after o t.plane t.way t.elevators p d))) (places t.width t.height) c
