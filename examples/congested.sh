@@ -1,7 +1,7 @@
 #!/bin/sh
 # Writes a script for a crowded stack of 24 by 24 by 8 with 336 links, 48 in each gap: a packet at every router,
 # then rounds in which every router tries each port of one of its buffers and collects from it.
-#   sh examples/congested.sh [ROUNDS] | target/bin/replay
+#   sh examples/congested.sh [ROUNDS] | crates/replay/out/replay
 awk -v rounds="${1:-22}" 'BEGIN {
     width = 24; height = 24; planes = 8; buffers = 11; ports = 6; seed = 1
     print "stack", width, height, planes

@@ -1,6 +1,6 @@
 #!/bin/sh
 # Writes the description of a stack of 24 by 24 by 8 with 336 links, 48 in each gap:
-#   sh examples/large.sh | target/bin/plan
+#   sh examples/large.sh | crates/plan/out/plan
 byte() { printf "\\$(printf %03o "$1")"; }
 
 printf S; byte 24; byte 24; byte 8

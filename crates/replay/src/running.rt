@@ -1,4 +1,7 @@
 // Works a script: reads its description, runs its calls over the plan, and reports.
+ghost use Rattle.std.specs.Prelude.{◌≡◌, true};
+ghost use Rattle.channel_laws.specs.Table.{in_stack};
+
 use crate::lines::{Scheme, Tie};
 use crate::report::{
     write_answers, write_fault, write_held, write_plan, write_refusal, write_totals,
@@ -7,6 +10,7 @@ use crate::script::Script;
 use channel_laws::{Answer, Call, Record};
 use channels::{EMPTY, ports, run_script};
 use description::{Description, read};
+use mesh::{Router, Sizes};
 use routing::{
     Chooser, Filler, First, Guide, Last, MdSafe, Optimistic, RandomOffline, ShiftRegister,
 };
@@ -29,6 +33,13 @@ struct Job<'a> {
     calls: &'a [Call],
 }
 
+// The i-th router of a stack.
+fn router_at(sizes: Sizes, i: usize) -> Router
+    ensures { in_stack sizes result ≡ true }
+{
+    sizes.router_at(i)
+}
+
 // A line for each packet that the table holds, in the order of its records: an empty buffer has no ports to tell. The
 // reply is how many there are.
 fn report_held<G: Guide, W: Write>(
@@ -41,7 +52,7 @@ fn report_held<G: Guide, W: Write>(
     let sizes = job.description.sizes;
     let mut held = 0usize;
     for (i, record) in table.iter().enumerate() {
-        let router = sizes.router_at(i / BUFFERS);
+        let router = router_at(sizes, i / BUFFERS);
         let buffer = (i % BUFFERS) as u8;
         if let Ok(permitted) = ports(guide, sizes, job.map, bytes, table, router, buffer) {
             write_held(out, router, buffer, *record, permitted)?;
