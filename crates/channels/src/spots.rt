@@ -47,6 +47,7 @@ pub(crate) fn is_empty(record: Record) -> bool
 }
 
 // The number of records of a table.
+#[tactic(auto, unfolding(channel_laws::specs::Table::table_size))]
 pub(crate) fn table_size(sizes: Sizes) -> usize
     ensures { result ≡ table_size sizes }
 {

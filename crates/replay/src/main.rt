@@ -10,6 +10,7 @@ mod running;
 mod script;
 
 use std::io::{BufWriter, Read, Write};
+use std::process::ExitCode;
 
 // Reads the whole script before anything is printed.
 fn replay(rt: &HostRuntime) -> anyhow::Result<()> {
@@ -23,10 +24,13 @@ fn replay(rt: &HostRuntime) -> anyhow::Result<()> {
     Ok(())
 }
 
-fn main(rt: HostRuntime) -> anyhow::Result<()> {
-    let end = replay(&rt);
-    if let Err(error) = &end {
-        eprintln!(rt; "replay: {error}")?;
+fn main(rt: HostRuntime) -> ExitCode {
+    match replay(&rt) {
+        Ok(()) => ExitCode::SUCCESS,
+        Err(error) => {
+            // Where standard error takes nothing, the status still tells.
+            let _told = eprintln!(rt; "replay: {error}");
+            ExitCode::FAILURE
+        }
     }
-    end
 }

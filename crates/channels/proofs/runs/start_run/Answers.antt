@@ -1,4 +1,4 @@
-use Rattle.std.proofs.Common.{◌≡◌, ◌*◌, ◌<◌, ◌≤◌, false, cond, [], length, drop, Some, None, Ok, sym, ap, ◌∙◌, subst, inl, ⊎_elim, arith}
+use Rattle.std.proofs.Common.{◌≡◌, rules, ◌*◌, ◌<◌, ◌≤◌, false, cond, [], length, drop, Some, None, Ok, sym, ap, ◌∙◌, subst, inl, ⊎_elim, arith}
 use Rattle.std.proofs.lemmas.Bool.{cases_lt, le-ltb}
 use Rattle.mesh.specs.declared.refusals.Refusal.TheVariants.{ShortBuffer}
 use Rattle.routing_laws.specs.Plan.{Planned, area, gaps, job, routers}
@@ -19,7 +19,8 @@ returns g c =
     let bytes = c.args.bytes.now in
     let ask = c.args.chooser.now in
     let fits : short_table (state s [] [] table) ≡ false = le-ltb (length table) (table_size s) (omega (arith, c.table_size.ensures)) in
-    let done : Planned j bytes ask c.plan.new.bytes c.plan.new.chooser (Ok tt) = subst (Planned j bytes ask c.plan.new.bytes c.plan.new.chooser) c.in_ok-plan.was c.plan.ensures in
+    let accepted : c.plan.result ≡ Ok tt = search rules in
+    let done : Planned j bytes ask c.plan.new.bytes c.plan.new.chooser (Ok tt) = subst (Planned j bytes ask c.plan.new.bytes c.plan.new.chooser) accepted c.plan.ensures in
     let none : clear_refusal (state s [] [] table) ≡ None = ap (λ b. cond b (Some ShortBuffer) None) fits in
     let answer : c.clear.result ≡ Ok tt = c.clear.ensures.answers ∙ ap result_of none in
     let cleared = c.clear.ensures.leaves ∙ ap (clearing s table) none in
