@@ -43,7 +43,9 @@ fn marks(bytes: &[u8], links: &[usize]) -> bool {
 // Reads into a map that was used before, and expects a fault that leaves all of it 0.
 fn refused(rt: &impl Abort, input: &[u8], number: u8, place: usize) -> Result<(), Fail> {
     let mut map = [7; ROOM];
-    let Err(fault) = read(input, &mut map) else {
+    let answer = read(input, &mut map);
+    assert!(rt; answer.is_err(), "accepted {input:?}");
+    let Err(fault) = answer else {
         return Err(Fail::new("accepted"));
     };
     assert_eq!(rt; fault.refusal().number(), number, "number of {input:?}");
