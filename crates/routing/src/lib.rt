@@ -14,9 +14,9 @@ mod seeking;
 mod shifting;
 mod ties;
 
-pub use choosing::{Chooser, First, Last};
-pub use filling::Filler;
-pub use guiding::Guide;
+pub use choosing::{Chooser, First, Last, Question};
+pub use filling::{Filler, Task};
+pub use guiding::{Guide, Request};
 pub use optimistic::Optimistic;
 pub use pointing::Pointing;
 pub use register::ShiftRegister;

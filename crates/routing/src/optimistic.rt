@@ -6,8 +6,8 @@ ghost use Rattle.routing_laws.proofs.Compass.{open_long, open_small};
 ghost use Rattle.routing_laws.proofs.Seeking.{open_lawful};
 
 use crate::choosing::Chooser;
-use crate::filling::Filler;
-use mesh::{Directions, Place, Sizes, Way};
+use crate::filling::{Filler, Task};
+use mesh::{Directions, Place};
 
 #[derive(Clone, Copy)]
 pub struct Optimistic;
@@ -57,13 +57,13 @@ fn look(place: Place, elevators: &[Place]) -> Directions
 }
 
 // One half of a plane: each router is told where elevators lie.
-fn look_around(sizes: Sizes, way: Way, elevators: &[Place], bytes: &mut [u8])
-    requires { length bytes.old ≡ sizes.width * sizes.height }
-    ensures { bytes.new ≡ put_halves way bytes.old (open_half sizes.width sizes.height elevators.now) }
+fn look_around(task: Task, bytes: &mut [u8])
+    requires { length bytes.old ≡ task.sizes.width * task.sizes.height }
+    ensures { bytes.new ≡ put_halves task.entry.way bytes.old (open_half task.entry.sizes.width task.entry.sizes.height task.entry.elevators.now) }
 {
     for (i, byte) in bytes.iter_mut().enumerate() {
-        let seen = look(sizes.place_at(i), elevators);
-        *byte = way.with_half(*byte, seen.pack());
+        let seen = look(task.sizes.place_at(i), task.elevators);
+        *byte = task.way.with_half(*byte, seen.pack());
     }
 }
 
@@ -86,15 +86,7 @@ impl<C: Chooser> Filler<C> for Optimistic {
         *self
     }
 
-    fn fill(
-        &self,
-        sizes: Sizes,
-        plane: u8,
-        way: Way,
-        elevators: &[Place],
-        chooser: &mut C,
-        bytes: &mut [u8],
-    ) {
-        look_around(sizes, way, elevators, bytes);
+    fn fill(&self, task: Task, chooser: &mut C, bytes: &mut [u8]) {
+        look_around(task, bytes);
     }
 }

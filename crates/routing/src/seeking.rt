@@ -4,9 +4,9 @@ ghost use Rattle.std.specs.Prelude.{◌≡◌, ◌*◌, replicate};
 ghost use Rattle.routing_laws.specs.Guides.{both, only, optimistic_lawful, optimistic_reply, seek};
 ghost use Rattle.routing_laws.proofs.Seeking.{optimistic_rules, zero_lawful};
 
-use crate::guiding::Guide;
+use crate::guiding::{Guide, Request};
 use crate::optimistic::Optimistic;
-use mesh::{Direction, Directions, Place, Sizes, Trip, TurnOrder};
+use mesh::{Direction, Directions, Trip, TurnOrder};
 
 fn meet(half: Directions, destination: Directions) -> Directions
     ensures { result ≡ both half destination }
@@ -78,18 +78,10 @@ impl Guide for Optimistic {
 
     ghost none = { λ g w h. zero_lawful w h (replicate (w * h) 0) };
 
-    fn permits(
-        &self,
-        sizes: Sizes,
-        place: Place,
-        half: u8,
-        destination: Place,
-        side: Option<Direction>,
-        trip: Trip,
-    ) -> Directions {
-        let ahead = Directions::toward(place, destination);
-        match trip {
-            Trip::Seeking => alone(port(Directions::unpack(half), ahead, side)),
+    fn permits(&self, request: Request) -> Directions {
+        let ahead = Directions::toward(request.place, request.destination);
+        match request.trip {
+            Trip::Seeking => alone(port(Directions::unpack(request.half), ahead, request.side)),
             Trip::Bound => TurnOrder::xy().permits(ahead),
         }
     }

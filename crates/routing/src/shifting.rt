@@ -1,14 +1,13 @@
 // The shift register as a chooser: its bits move at each question, and the new state picks the candidate.
 ghost use Rattle.std.specs.Prelude.{◌≡◌, ◌%◌, ◌<◌, max, length, MatchResult};
 ghost use Rattle.mesh.specs.declared.refusals.Refusal.TheVariants.{ZeroState};
-ghost use Rattle.routing_laws.specs.Filling.{asked};
 ghost use Rattle.routing_laws.specs.Register.{Moved, bit, shifted, tapped};
 ghost use Rattle.routing.specs.Registers.{shift};
 ghost use Rattle.std.proofs.Common.{rules, arith};
 
-use crate::choosing::Chooser;
+use crate::choosing::{Chooser, Question};
 use crate::register::ShiftRegister;
-use mesh::{Place, Refusal, Way};
+use mesh::{Place, Refusal};
 
 fn bit(state: u16, k: u32) -> u16
     requires { k < 16 }
@@ -77,8 +76,8 @@ impl Chooser for ShiftRegister {
 
     ghost within = { first_of (Prim.search rules, Prim.grind (arith, Self.row.coded.inj)) };
 
-    fn choose(&mut self, plane: u8, way: Way, router: Place, candidates: &[Place]) -> usize {
+    fn choose(&mut self, question: Question) -> usize {
         let state = self.advance();
-        pick(state, candidates)
+        pick(state, question.candidates)
     }
 }
