@@ -1,6 +1,5 @@
 // Fillers: what writes one half of one plane.
-ghost use Rattle.std.specs.Prelude.{◌≡◌, ℕ, ◌*◌, ◌<◌, ◌≤◌, List, length};
-ghost use Rattle.std.specs.List.{ContainsAt as Has, AllByRecursion};
+ghost use Rattle.std.specs.Prelude.{◌≡◌, ℕ, ◌*◌, ◌<◌, ◌≤◌, List, length, All, Contains};
 ghost use Rattle.mesh.specs.declared.grid.Place.{Place};
 ghost use Rattle.mesh.specs.Layout.{Inside};
 ghost use Rattle.routing_laws.specs.Filling.{Task, put_halves};
@@ -44,7 +43,7 @@ pub trait Filler<C: Chooser> {
 
     ghost long: { (f : Self) (t : Task) (c : C) → length (half f t c) ≡ t.width * t.height };
 
-    ghost small: { (f : Self) (t : Task) (c : C) → AllByRecursion (λ v. v < 16) (half f t c) };
+    ghost small: { (f : Self) (t : Task) (c : C) → All (λ v. v < 16) (half f t c) };
 
-    ghost lawful: { (f : Self) (t : Task) (c : C) → 0 < t.width → 0 < t.height → 0 < length t.elevators → ((e : Place) → Has t.elevators e → Inside t.width t.height e) → Self.Guide.Guide.lawful (partner f) t.width t.height t.elevators (half f t c) };
+    ghost lawful: { (f : Self) (t : Task) (c : C) → 0 < t.width → 0 < t.height → 0 < length t.elevators → ((e : Place) → Contains t.elevators e → Inside t.width t.height e) → Self.Guide.Guide.lawful (partner f) t.width t.height t.elevators (half f t c) };
 }

@@ -1,6 +1,5 @@
 // Guides: which ports a packet may take within a plane.
-ghost use Rattle.std.specs.Prelude.{◌≡◌, ℕ, ◌*◌, ◌<◌, List, [], replicate};
-ghost use Rattle.std.specs.List.{ContainsAt as Has};
+ghost use Rattle.std.specs.Prelude.{◌≡◌, ℕ, ◌*◌, ◌<◌, List, [], replicate, Contains};
 ghost use Rattle.mesh.specs.declared.compass.Directions.{Directions};
 ghost use Rattle.mesh.specs.declared.grid.Place.{Place};
 ghost use Rattle.mesh.specs.Layout.{Inside};
@@ -32,7 +31,7 @@ pub trait Guide {
     fn permits(&self, request: Request) -> Directions
         ensures { result ≡ reply self.now (told_by request) };
 
-    ghost rules: { (g : Self) (w h : ℕ) (es : List Place) (filling : List ℕ) → 0 < w → 0 < h → ((e : Place) → Has es e → Inside w h e) → lawful g w h es filling → Rules (plane_of w h es filling (reply g)) };
+    ghost rules: { (g : Self) (w h : ℕ) (es : List Place) (filling : List ℕ) → 0 < w → 0 < h → ((e : Place) → Contains es e → Inside w h e) → lawful g w h es filling → Rules (plane_of w h es filling (reply g)) };
 
     ghost none: { (g : Self) (w h : ℕ) → lawful g w h [] (replicate (w * h) 0) };
 }

@@ -1,7 +1,7 @@
 // The optimistic scheme: every router is told in which directions elevators lie, and nobody is asked.
 ghost use Rattle.std.specs.Prelude.{◌≡◌, ℕ, ◌*◌, ◌<◌, ◌≤◌, length};
 ghost use Rattle.routing_laws.specs.Filling.{put_halves};
-ghost use Rattle.routing_laws.specs.Optimistic.{compass, joined, open_half, sighted};
+ghost use Rattle.routing_laws.specs.Optimistic.{compass, open_half, sighted};
 ghost use Rattle.routing_laws.proofs.Compass.{open_long, open_small};
 ghost use Rattle.routing_laws.proofs.Seeking.{open_lawful};
 
@@ -29,29 +29,13 @@ fn sight(place: Place, elevator: Place) -> Directions
     }
 }
 
-fn join(first: Directions, second: Directions) -> Directions
-    ensures { result ≡ joined first second }
-{
-    Directions {
-        north: first.north | second.north,
-        east: first.east | second.east,
-        south: first.south | second.south,
-        west: first.west | second.west,
-    }
-}
-
 // The directions in which elevators lie from a place.
 fn look(place: Place, elevators: &[Place]) -> Directions
     ensures { result ≡ compass elevators.now place }
 {
-    let mut seen = Directions {
-        north: false,
-        east: false,
-        south: false,
-        west: false,
-    };
+    let mut seen = Directions::NONE;
     for elevator in elevators {
-        seen = join(seen, sight(place, *elevator));
+        seen = seen | sight(place, *elevator);
     }
     seen
 }

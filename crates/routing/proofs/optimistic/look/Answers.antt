@@ -1,6 +1,7 @@
 use Rattle.std.proofs.Common.{sym, ap, ◌∙◌, arith}
 use Rattle.std.proofs.lemmas.List.{take_all}
-use Rattle.routing_laws.specs.Optimistic.{compass, joined}
+use Rattle.mesh.specs.Compass.{joined}
+use Rattle.routing_laws.specs.Optimistic.{compass}
 use Rattle.routing_laws.proofs.Compass.{compass_more}
 use Rattle.routing.proofs.optimistic.look.Goals as goal
 
@@ -8,7 +9,7 @@ pub loop-elevator-preserved : goal.loop-elevator-preserved
 loop-elevator-preserved c =
     let es = c.args.elevators.now in
     let i = c.loop-elevator.elevator-index in
-    c.join-seen.ensures ∙ (λ k. joined (c.loop-elevator.invariant k) (c.sight.ensures k)) ∙ sym (compass_more es c.args.place i (omega arith))
+    c.bitor-seen.ensures ∙ (λ k. joined (c.loop-elevator.invariant k) (c.sight.ensures k)) ∙ sym (compass_more es c.args.place i (omega arith))
 
 pub returns : goal.returns
 returns c = c.loop-elevator.invariant ∙ ap (λ es. compass es c.args.place) (take_all c.loop-elevator.elevator-index c.args.elevators.now (omega arith))
