@@ -11,7 +11,6 @@ mod register;
 mod rooms;
 mod safe;
 mod seeking;
-mod shifting;
 mod ties;
 
 pub use choosing::{Chooser, First, Last, Question};

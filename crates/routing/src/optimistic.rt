@@ -16,15 +16,14 @@ pub struct Optimistic;
 fn sight(place: Place, elevator: Place) -> Directions
     ensures { result ≡ sighted place elevator }
 {
-    let way = Directions::toward(place, elevator);
+    let ahead = Directions::toward(place, elevator);
     if elevator.x == place.x {
-        way
+        ahead
     } else {
         Directions {
             north: false,
-            east: way.east,
             south: false,
-            west: way.west,
+            ..ahead
         }
     }
 }
