@@ -14,7 +14,7 @@ ghost use Rattle.routing_laws.proofs.Lawful.{tie_lawful};
 use crate::choosing::{Chooser, Question};
 use crate::filling::{Filler, Task};
 use crate::pointing::Pointing;
-use crate::rooms::{Places, passing};
+use crate::rooms::{Places, list_passing};
 use crate::safe::pointing;
 use mesh::{Directions, LAST_SET, Place, TurnOrder};
 
@@ -35,33 +35,41 @@ fn least_distance(place: Place, elevators: &[Place]) -> u16
     least
 }
 
-// The candidates of a router: its nearest elevators, and of these only those that need directions of the last set alone
-// where there are any.
-fn candidates(order: TurnOrder, place: Place, elevators: &[Place]) -> Places
+// Lists the candidates of a router: its nearest elevators, and of these only those that need directions of the last set
+// alone where there are any.
+fn list_candidates(order: TurnOrder, place: Place, elevators: &[Place], list: &mut Places)
     requires some { 0 < length elevators.now }
     requires few { length elevators.now ≤ 576 }
-    ensures list { result.items ≡ candidates order place elevators.now }
-    ensures some { 0 < array_vec_len result }
+    ensures list { list.new.items ≡ candidates order place elevators.now }
+    ensures some { 0 < array_vec_len list.new }
 {
     let least = least_distance(place, elevators);
-    let late = passing(elevators, |elevator| {
-        place.distance(elevator) == least
-            && order.lowest(Directions::toward(place, elevator)) >= LAST_SET
-    });
-    if !late.is_empty() {
-        return late;
+    let is_nearest = |elevator: Place| place.distance(elevator) == least;
+    let is_late = |elevator| order.lowest(Directions::toward(place, elevator)) >= LAST_SET;
+    list_passing(
+        elevators,
+        |elevator| is_nearest(elevator) && is_late(elevator),
+        list,
+    );
+    if list.is_empty() {
+        list_passing(elevators, is_nearest, list);
     }
-    passing(elevators, |elevator| place.distance(elevator) == least)
 }
 
 // The elevator that a router points at: the chooser is asked only where two or more candidates remain.
-fn settle<C: Chooser>(order: TurnOrder, task: Task, place: Place, chooser: &mut C) -> Place
+fn settle<C: Chooser>(
+    order: TurnOrder,
+    task: Task,
+    place: Place,
+    candidates: &mut Places,
+    chooser: &mut C,
+) -> Place
     requires some { 0 < length task.elevators.now }
     requires few { length task.elevators.now ≤ 576 }
     ensures settles { result ≡ target C.position C.after order task.entry.plane task.entry.way task.entry.elevators.now place chooser.old }
     ensures goes { chooser.new ≡ onward C.position C.after order task.entry.plane task.entry.way task.entry.elevators.now place chooser.old }
 {
-    let candidates = candidates(order, place, task.elevators);
+    list_candidates(order, place, task.elevators, candidates);
     if candidates.len() < 2 {
         return candidates[0];
     }
@@ -69,7 +77,7 @@ fn settle<C: Chooser>(order: TurnOrder, task: Task, place: Place, chooser: &mut 
         plane: task.plane,
         way: task.way,
         router: place,
-        candidates: &candidates,
+        candidates,
     };
     candidates[chooser.choose(question)]
 }
@@ -82,9 +90,10 @@ fn settle_all<C: Chooser>(order: TurnOrder, task: Task, chooser: &mut C, bytes: 
     ensures writes { bytes.new ≡ put_halves task.entry.way bytes.old (tie_half C.position C.after order (task_of task.entry) chooser.old) }
     ensures goes { chooser.new ≡ tie_next C.position C.after order (task_of task.entry) chooser.old }
 {
+    let mut candidates = Places::new();
     for (i, byte) in bytes.iter_mut().enumerate() {
         let place = task.sizes.place_at(i);
-        let elevator = settle(order, task, place, chooser);
+        let elevator = settle(order, task, place, &mut candidates, chooser);
         *byte = task.way.with_half(*byte, pointing(place, elevator));
     }
 }
