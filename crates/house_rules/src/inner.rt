@@ -45,7 +45,7 @@ impl<C: Chooser> Filler<C> for InnerElevators {
         let mut inner = Places::new();
         list_passing(
             task.elevators,
-            |elevator| is_inner(task.sizes, elevator),
+            |elevator| is_inner(task.sizes, *elevator),
             &mut inner,
         );
         let elevators = if inner.is_empty() {

@@ -44,8 +44,8 @@ fn list_candidates(order: TurnOrder, place: Place, elevators: &[Place], list: &m
     ensures some { 0 < array_vec_len list.new }
 {
     let least = least_distance(place, elevators);
-    let is_nearest = |elevator: Place| place.distance(elevator) == least;
-    let is_late = |elevator| order.lowest(Directions::toward(place, elevator)) >= LAST_SET;
+    let is_nearest = |elevator: &Place| place.distance(*elevator) == least;
+    let is_late = |elevator: &Place| order.lowest(Directions::toward(place, *elevator)) >= LAST_SET;
     list_passing(
         elevators,
         |elevator| is_nearest(elevator) && is_late(elevator),

@@ -9,7 +9,7 @@ pub loop-place-preserved : goal.loop-place-preserved
 loop-place-preserved g c = λ test says.
     let i = c.loop-place.place-index in
     let places = c.args.places.now in
-    let is = sym (says (get_or places i origin) c.passes.result c.passes.ensures) in
+    let is = sym (says _ c.passes.result c.passes.ensures) in
     let kept = c.loop-place.list in
     let before = c.loop-place.invariant test says in
     let inside = c.loop-place-test.true in
