@@ -35,25 +35,32 @@ fn least_distance(place: Place, elevators: &[Place]) -> u16
     least
 }
 
-// Lists the candidates of a router: its nearest elevators, and of these only those that need directions of the last set
-// alone where there are any.
-fn list_candidates(order: TurnOrder, place: Place, elevators: &[Place], list: &mut Places)
+// The candidates of a router, listed in the room lent: of its nearest elevators those that need directions of the last
+// set alone, or all where none does.
+fn candidates<'a>(
+    order: TurnOrder,
+    place: Place,
+    elevators: &[Place],
+    nearest: &'a mut Places,
+    late: &'a mut Places,
+) -> &'a [Place]
     requires some { 0 < length elevators.now }
     requires few { length elevators.now ≤ 576 }
-    ensures list { list.new.items ≡ candidates order place elevators.now }
-    ensures some { 0 < array_vec_len list.new }
+    ensures list { result.now ≡ candidates order place elevators.now }
+    ensures some { 0 < length result.now }
 {
     let least = least_distance(place, elevators);
-    let is_nearest = |elevator: &Place| place.distance(*elevator) == least;
-    let is_late = |elevator: &Place| order.lowest(Directions::toward(place, *elevator)) >= LAST_SET;
     list_passing(
         elevators,
-        |elevator| is_nearest(elevator) && is_late(elevator),
-        list,
+        |elevator| place.distance(*elevator) == least,
+        nearest,
     );
-    if list.is_empty() {
-        list_passing(elevators, is_nearest, list);
-    }
+    list_passing(
+        nearest,
+        |elevator| order.lowest(Directions::toward(place, *elevator)) >= LAST_SET,
+        late,
+    );
+    if late.is_empty() { nearest } else { late }
 }
 
 // The elevator that a router points at: the chooser is asked only where two or more candidates remain.
@@ -61,7 +68,8 @@ fn settle<C: Chooser>(
     order: TurnOrder,
     task: Task,
     place: Place,
-    candidates: &mut Places,
+    nearest: &mut Places,
+    late: &mut Places,
     chooser: &mut C,
 ) -> Place
     requires some { 0 < length task.elevators.now }
@@ -69,7 +77,7 @@ fn settle<C: Chooser>(
     ensures settles { result ≡ target C.position C.after order task.entry.plane task.entry.way task.entry.elevators.now place chooser.old }
     ensures goes { chooser.new ≡ onward C.position C.after order task.entry.plane task.entry.way task.entry.elevators.now place chooser.old }
 {
-    list_candidates(order, place, task.elevators, candidates);
+    let candidates = candidates(order, place, task.elevators, nearest, late);
     if candidates.len() < 2 {
         return candidates[0];
     }
@@ -90,10 +98,11 @@ fn settle_all<C: Chooser>(order: TurnOrder, task: Task, chooser: &mut C, bytes: 
     ensures writes { bytes.new ≡ put_halves task.entry.way bytes.old (tie_half C.position C.after order (task_of task.entry) chooser.old) }
     ensures goes { chooser.new ≡ tie_next C.position C.after order (task_of task.entry) chooser.old }
 {
-    let mut candidates = Places::new();
+    let mut nearest = Places::new();
+    let mut late = Places::new();
     for (i, byte) in bytes.iter_mut().enumerate() {
         let place = task.sizes.place_at(i);
-        let elevator = settle(order, task, place, &mut candidates, chooser);
+        let elevator = settle(order, task, place, &mut nearest, &mut late, chooser);
         *byte = task.way.with_half(*byte, pointing(place, elevator));
     }
 }
