@@ -5,6 +5,7 @@
 mod choosing;
 mod filling;
 mod guiding;
+mod halves;
 mod optimistic;
 mod pointing;
 mod register;
