@@ -13,7 +13,7 @@ pub type Places = ArrayVec<Place, MOST>;
 // Lists the places that pass a test, in their order: all that there are, up to `MOST`.
 pub fn list_passing<F: Fn(&Place) -> bool>(places: &[Place], passes: F, list: &mut Places)
     requires { F.IsAlwaysCallable passes }
-    ensures { (test : Place → Bool) → ((p : _) (b : Bool) → F.post passes p b → b ≡ test p.now) → list.new.items ≡ take 576 (filter test places.now) }
+    ensures { (test : Place → Bool) → ((p : _) (b : Bool) → F.post passes p b → b ≡ test p.now) → list.new.items ≡ take MOST (filter test places.now) }
 {
     list.clear();
     for place in places {
