@@ -25,7 +25,8 @@ impl Gaps<'_> {
         let start = usize::from(gap) * area;
         let mut list = Places::new();
         for (i, link) in self.map[start..start + area].iter().enumerate() {
-            if *link == LINK {
+            let is_link = *link == LINK;
+            if is_link {
                 list.push(self.sizes.place_at(i));
             }
         }

@@ -6,7 +6,7 @@ use Rattle.routing_laws.specs.Elevators.{Listed}
 use Rattle.routing_laws.proofs.Listing.{all_listed, listed_all, listed_more, part_long}
 use Rattle.routing_laws.proofs.Planes.{plane_order}
 use Rattle.planner.proofs.gaps.Gaps.elevators.Goals as goal
-use Rattle.planner.proofs.gaps.Gaps.elevators.Goals.{After-from, then-link-eq-LINK, else-link-eq-LINK}
+use Rattle.planner.proofs.gaps.Gaps.elevators.Goals.{After-from, then-is_link, else-is_link}
 
 -- the gap's part of the map has the area of a plane
 whole : (c : After-from) → let n = c.area-area.result in length (take (c.from.result * n + n - c.from.result * n) (drop (c.from.result * n) c.args.self.map.now)) ≡ c.args.self.sizes.width * c.args.self.sizes.height
@@ -27,13 +27,13 @@ loop-i-preserved c =
     let inside : i < s.width * s.height = omega (arith, whole (goal.at.loop-i-preserved c).After-from) in
     let more = λ (p : Place) (here : p ≡ place_at s.width s.height i) (new : List Place) (is : new ≡ kept ++ cond (eqb link 1) (p ∷ []) []).
     listed_more s.width s.height s.some_columns s.some_rows links c.args.gap i start (start + n) p kept new (λ k. c.from.ensures k * c.area-area.ensures k) (ap (λ m. start + m) c.area-area.ensures) inside c.loop-i.invariant.0 here is in
-    elim c.if-link-eq-LINK.branch [
-      | then-link-eq-LINK w ↦
+    elim c.if-is_link.branch [
+      | then-is_link w ↦
           let new = ap (λ v. v.items) w.list-is ∙ w.push.ensures.items in
-          (more w.place_at.result w.place_at.ensures c.if-link-eq-LINK.list.items (new ∙ sym (ap (λ b. kept ++ cond b (w.place_at.result ∷ []) []) (eq-eqb link 1 w.if-link-eq-LINK.true))), omega (arith, ap (λ v. length v.items) w.list-is, w.push.ensures.len, c.loop-i.invariant.1))
-      | else-link-eq-LINK w ↦
+          (more w.place_at.result w.place_at.ensures c.if-is_link.list.items (new ∙ sym (ap (λ b. kept ++ cond b (w.place_at.result ∷ []) []) (eq-eqb link 1 w.if-is_link.true))), omega (arith, ap (λ v. length v.items) w.list-is, w.push.ensures.len, c.loop-i.invariant.1))
+      | else-is_link w ↦
           let new = ap (λ v. v.items) w.list-is in
-          (more (place_at s.width s.height i) refl c.if-link-eq-LINK.list.items (new ∙ sym (ap (λ b. kept ++ cond b (place_at s.width s.height i ∷ []) []) (ne_eqb link 1 w.if-link-eq-LINK.false) ∙ append-nil kept)), omega (arith, ap (λ v. length v.items) w.list-is, c.loop-i.invariant.1))
+          (more (place_at s.width s.height i) refl c.if-is_link.list.items (new ∙ sym (ap (λ b. kept ++ cond b (place_at s.width s.height i ∷ []) []) (ne_eqb link 1 w.if-is_link.false) ∙ append-nil kept)), omega (arith, ap (λ v. length v.items) w.list-is, c.loop-i.invariant.1))
     ]
 
 pub returns-clause-list : goal.returns-clause-list
