@@ -10,7 +10,7 @@ use Rattle.mesh.specs.declared.grid.Router.{Router}
 use Rattle.mesh.specs.Compass.{gap}
 use Rattle.routing_laws.specs.Chains.{Told, longest}
 use Rattle.channel_laws.specs.declared.buffers.Buffer.{Buffer}
-use Rattle.channel_laws.specs.declared.calls.Answer.TheVariants.{Injected, Moved, Collected}
+use Rattle.channel_laws.specs.declared.calls.Done.TheVariants.{Injected, Moved, Collected}
 use Rattle.channel_laws.specs.declared.calls.Call.{Call}
 use Rattle.channel_laws.specs.declared.calls.Call.TheVariants.{Inject, Move, Collect}
 use Rattle.channel_laws.specs.declared.records.Record.{Record}

@@ -16,7 +16,7 @@ use Rattle.mesh.specs.declared.grid.Router.{Router}
 use Rattle.mesh.specs.declared.stack.Sizes.{Sizes}
 use Rattle.mesh.specs.Compass.{gap}
 use Rattle.mesh.specs.Halves.{half}
-use Rattle.mesh.specs.Layout.{Inside, cell}
+use Rattle.mesh.specs.Layout.{cell, Inside, place_of}
 use Rattle.routing_laws.specs.Chains.{Chain, Ended, Next, Permits, Plane, Rules, Starts, Told, back, half_at, longest, move, plane_of, start, tell, told}
 use Rattle.routing_laws.specs.Filling.{plane}
 use Rattle.routing_laws.proofs.Listing.{all_listed, cell_below, joined_some}
@@ -29,7 +29,7 @@ use Rattle.channel_laws.specs.declared.buffers.Port.{Port}
 use Rattle.channel_laws.specs.declared.buffers.Port.TheVariants.{Planar, Vertical}
 use Rattle.channel_laws.specs.declared.records.Record.{Record}
 use Rattle.channel_laws.specs.Buffers.{entered, network}
-use Rattle.channel_laws.specs.Table.{InStack, State, place_of, router_at}
+use Rattle.channel_laws.specs.Table.{InStack, State, router_at}
 use Rattle.channel_laws.specs.Ports.{beside, crossing_ports, gap_of, half_of, is_elevator, leads_out, neighbour, permitted_ports, planar_only, same_router, side_of, way_only, way_to}
 use Rattle.channel_laws.specs.Calls.{carried, damaged, entered_by, fresh}
 use Rattle.channel_laws.specs.Certificate.{Guided, bare_plane, filled_plane, most_moves}

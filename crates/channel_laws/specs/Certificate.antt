@@ -17,7 +17,8 @@ use Rattle.channel_laws.specs.declared.calls.Call.TheVariants.{Move}
 use Rattle.channel_laws.specs.declared.records.Record.{Record}
 use Rattle.channel_laws.specs.Buffers.{buffer_of, port_of}
 use Rattle.channel_laws.specs.Ports.{gap_of}
-use Rattle.channel_laws.specs.Table.{InStack, State, packets, packets_in, place_of}
+use Rattle.mesh.specs.Layout.{place_of}
+use Rattle.channel_laws.specs.Table.{InStack, State, packets, packets_in}
 use Rattle.channel_laws.specs.Calls.{cleared, outcome, short}
 use Rattle.channel_laws.specs.Runs.{Event, Handed, Packet, Sits, accepted, collections_of, events, injections, injections_of, packet_of, same_packet, state_after, works, workings}
 

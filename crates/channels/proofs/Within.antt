@@ -9,7 +9,8 @@ use Rattle.mesh.specs.declared.stack.Sizes.{Sizes}
 use Rattle.channel_laws.specs.declared.buffers.Port.{Port}
 use Rattle.channel_laws.specs.declared.buffers.Port.TheVariants.{Planar, Vertical}
 use Rattle.channel_laws.specs.Ports.{leads_out, neighbour}
-use Rattle.channel_laws.specs.Table.{InStack, in_stack}
+use Rattle.mesh.specs.Layout.{in_stack}
+use Rattle.channel_laws.specs.Table.{InStack}
 
 pub within : (s : Sizes) (r : Router) → in_stack s r ≡ true → InStack s r
 within s r t =

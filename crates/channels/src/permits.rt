@@ -1,8 +1,10 @@
 // The ports that a packet is permitted, and where they lead.
 ghost use Rattle.std.specs.Prelude.{◌≡◌, ◌-◌, ◌*◌, ◌<◌, ◌≤◌, true, false, [], length, slice_index};
 ghost use Rattle.channel_laws.specs.Calls.{entered_by};
-ghost use Rattle.channel_laws.specs.Ports.{gap_of, half_of, has_port, is_elevator, leads_out, neighbour, nowhere, permitted_ports, planar_only, side_of, way_only, way_to};
-ghost use Rattle.channel_laws.specs.Table.{in_stack, state};
+ghost use Rattle.mesh.specs.Compass.{nowhere};
+ghost use Rattle.channel_laws.specs.Ports.{gap_of, half_of, has_port, is_elevator, leads_out, neighbour, permitted_ports, planar_only, side_of, way_only, way_to};
+ghost use Rattle.mesh.specs.Layout.{in_stack};
+ghost use Rattle.channel_laws.specs.Table.{state};
 
 use crate::codes::{entered, network};
 use crate::spots::{place_of, same_router};

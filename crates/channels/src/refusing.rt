@@ -2,8 +2,9 @@
 ghost use Rattle.std.specs.Prelude.{◌≡◌, ◌<◌, ◌≤◌, true, false, [], length, Some, MatchResult};
 ghost use Rattle.channel_laws.specs.Buffers.{buffer_of};
 ghost use Rattle.channel_laws.specs.Calls.{carried, collect_refusal, damaged, inject_refusal, move_refusal, ports_refusal, short};
-ghost use Rattle.channel_laws.specs.Ports.{nowhere};
-ghost use Rattle.channel_laws.specs.Table.{empty, in_stack, record_at, state, table_size};
+ghost use Rattle.mesh.specs.Compass.{nowhere};
+ghost use Rattle.mesh.specs.Layout.{in_stack};
+ghost use Rattle.channel_laws.specs.Table.{empty, record_at, state, table_size};
 ghost use Rattle.channels.specs.Results.{Steps};
 
 use crate::codes::{buffer_of, port_of};

@@ -1,7 +1,8 @@
 // Routers and their places in the table.
 ghost use Rattle.std.specs.Prelude.{◌≡◌, ◌<◌, ◌≤◌, true};
 ghost use Rattle.channel_laws.specs.Ports.{leads_out, neighbour, same_router};
-ghost use Rattle.channel_laws.specs.Table.{empty, in_stack, is_empty, place_of, record_number, router_at, table_size};
+ghost use Rattle.mesh.specs.Layout.{in_stack, place_of};
+ghost use Rattle.channel_laws.specs.Table.{empty, is_empty, record_number, router_at, table_size};
 
 use crate::codes::buffer_number;
 use channel_laws::{Buffer, Port, Record};

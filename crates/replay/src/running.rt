@@ -1,6 +1,6 @@
 // Works a script: reads its description, runs its calls over the plan, and reports.
 ghost use Rattle.std.specs.Prelude.{◌≡◌, true};
-ghost use Rattle.channel_laws.specs.Table.{in_stack};
+ghost use Rattle.mesh.specs.Layout.{in_stack};
 
 use crate::lines::{Scheme, Tie};
 use crate::report::{

@@ -1,5 +1,5 @@
 use Rattle.std.proofs.Common.{◌≡◌, true, sym, subst}
-use Rattle.channel_laws.specs.Table.{in_stack}
+use Rattle.mesh.specs.Layout.{in_stack}
 use Rattle.channels.proofs.Within.{neighbour_within}
 use Rattle.channels.proofs.permits.next_router.Goals as goal
 
