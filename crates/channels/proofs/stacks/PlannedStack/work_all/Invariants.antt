@@ -1,10 +1,10 @@
 use Rattle.std.proofs.Common.{◌≡◌, take, drop}
-use Rattle.channel_laws.specs.Table.{state}
+use Rattle.channels.specs.Results.{state_of}
 use Rattle.channels.specs.Running.{answered, ran}
-use Rattle.channels.proofs.runs.work_all.Given as goal
+use Rattle.channels.proofs.stacks.PlannedStack.work_all.Given as goal
 
 abbrev pub invariant-loop-i : goal.invariant-loop-i
 invariant-loop-i g l =
     let reply = g.G.Guide.reply l.guide in
-    let s = state l.sizes l.map l.bytes l.initial.table in
+    let s = state_of l.self l.initial.table in
     (l.table ≡ (ran reply s (take l.i l.calls)).table) × (take l.i l.answers ≡ answered reply s (take l.i l.calls)) × (drop l.i l.answers ≡ drop l.i l.initial.answers)

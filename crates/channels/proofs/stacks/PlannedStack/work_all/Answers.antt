@@ -2,10 +2,10 @@ use Rattle.std.proofs.Common.{◌≡◌, ◌+◌, [], ◌∷◌, ◌++◌, rever
 use Rattle.channel_laws.specs.declared.calls.Call.{Call}
 use Rattle.channel_laws.specs.declared.calls.Call.TheVariants.{Inject}
 use Rattle.channel_laws.specs.Calls.{outcome}
-use Rattle.channel_laws.specs.Table.{state}
+use Rattle.channels.specs.Results.{state_of}
 use Rattle.channels.specs.Running.{answered, ran}
 use Rattle.channels.proofs.Stepping.{after_table, answered_next, ran_next}
-use Rattle.channels.proofs.runs.work_all.Goals as goal
+use Rattle.channels.proofs.stacks.PlannedStack.work_all.Goals as goal
 
 -- the call that stands where a list has none
 abbrev blank : Call
@@ -17,13 +17,13 @@ loop-i-init g c = (refl, refl, refl)
 pub loop-i-preserved : goal.loop-i-preserved
 loop-i-preserved g c =
     let reply = g.G.Guide.reply c.args.guide.now in
-    let s = state c.args.sizes c.args.map.now c.args.bytes.now c.args.table.now in
+    let s = state_of c.args.self.now c.args.table.now in
     let calls = c.args.calls.now in
     let i = c.loop-i.i in
     let filled = c.loop-i.answers in
     let call = get_or calls i blank in
-    let before : state c.args.sizes c.args.map.now c.args.bytes.now c.loop-i.table ≡ ran reply s (take i calls) =
-    ap (state c.args.sizes c.args.map.now c.args.bytes.now) c.loop-i.invariant.0 ∙ sym (after_table reply s (reverse (take i calls))) in (
+    let before : state_of c.args.self.now c.loop-i.table ≡ ran reply s (take i calls) =
+    ap (state_of c.args.self.now) c.loop-i.invariant.0 ∙ sym (after_table reply s (reverse (take i calls))) in (
       c.work.ensures.leaves ∙ ap (λ b. (outcome reply b call).after.table) before ∙ ap (λ b. b.table) (sym (ran_next reply s calls i blank c.loop-i-test.true)),
       ap (λ n. take n (set filled i c.work.result)) (add-one i)
           ∙ take-suc-set filled i c.work.result (omega arith)
@@ -35,7 +35,7 @@ loop-i-preserved g c =
 pub returns : goal.returns
 returns g c =
     let reply = g.G.Guide.reply c.args.guide.now in
-    let s = state c.args.sizes c.args.map.now c.args.bytes.now c.args.table.now in
+    let s = state_of c.args.self.now c.args.table.now in
     let calls = c.args.calls.now in
     let i = c.loop-i.i in
     let all : take i calls ≡ calls = take_all i calls c.loop-i-test.false in

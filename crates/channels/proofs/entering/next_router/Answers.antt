@@ -1,7 +1,7 @@
 use Rattle.std.proofs.Common.{◌≡◌, true, sym, subst}
 use Rattle.mesh.specs.Layout.{in_stack}
 use Rattle.channels.proofs.Within.{neighbour_within}
-use Rattle.channels.proofs.permits.next_router.Goals as goal
+use Rattle.channels.proofs.entering.next_router.Goals as goal
 
 pub returns : goal.returns
 returns c =
