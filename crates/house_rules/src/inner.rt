@@ -7,8 +7,8 @@ ghost use Rattle.routing_laws.proofs.Ties.{tie_long, tie_small};
 ghost use Rattle.house_rules.specs.Offering.{inner_lawful};
 
 use crate::toward::TowardDestination;
-use mesh::{Place, Sizes, TurnOrder, Way};
-use routing::{Chooser, Filler, MOST, RandomOffline, keep};
+use mesh::{Place, Sizes, TurnOrder};
+use routing::{Chooser, Filler, MOST, RandomOffline, Task, keep};
 
 #[derive(Clone, Copy)]
 pub struct InnerElevators {
@@ -68,18 +68,10 @@ impl<C: Chooser> Filler<C> for InnerElevators {
         TowardDestination { order: self.order }
     }
 
-    fn fill(
-        &self,
-        sizes: Sizes,
-        plane: u8,
-        way: Way,
-        elevators: &[Place],
-        chooser: &mut C,
-        bytes: &mut [u8],
-    ) {
+    fn fill(&self, task: Task, chooser: &mut C, bytes: &mut [u8]) {
         let mut room = [Place { x: 0, y: 0 }; MOST];
-        let offered = offer(sizes, elevators, &mut room);
+        let elevators = offer(task.sizes, task.elevators, &mut room);
         let filler = RandomOffline { order: self.order };
-        filler.fill(sizes, plane, way, offered, chooser, bytes);
+        filler.fill(Task { elevators, ..task }, chooser, bytes);
     }
 }

@@ -5,8 +5,8 @@ ghost use Rattle.house_rules.specs.Guiding.{leaning, lawful_for, some_direction,
 ghost use Rattle.routing_laws.specs.Guides.{both};
 ghost use Rattle.house_rules.specs.Leaning.{toward_rules, none_needed};
 
-use mesh::{Direction, Directions, Place, Sizes, Trip, TurnOrder};
-use routing::{Guide, Pointing};
+use mesh::{Directions, TurnOrder};
+use routing::{Guide, Pointing, Request};
 
 #[derive(Clone, Copy)]
 pub struct TowardDestination {
@@ -48,17 +48,11 @@ impl Guide for TowardDestination {
 
     ghost none = { λ g w h. none_needed g.order w h (replicate (w * h) 0) };
 
-    fn permits(
-        &self,
-        sizes: Sizes,
-        place: Place,
-        half: u8,
-        destination: Place,
-        side: Option<Direction>,
-        trip: Trip,
-    ) -> Directions {
-        let pointing = Pointing { order: self.order };
-        let ports = pointing.permits(sizes, place, half, destination, side, trip);
-        lean(ports, Directions::toward(place, destination))
+    fn permits(&self, request: Request) -> Directions {
+        let ports = Pointing { order: self.order }.permits(request);
+        lean(
+            ports,
+            Directions::toward(request.place, request.destination),
+        )
     }
 }

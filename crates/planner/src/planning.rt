@@ -3,38 +3,24 @@ ghost use Rattle.std.specs.Prelude.{◌≡◌, ℕ, ◌+◌, ◌-◌, ◌*◌, �
 ghost use Rattle.mesh.specs.declared.compass.Way.TheVariants.{Up, Down};
 ghost use Rattle.routing_laws.specs.Elevators.{Joined};
 ghost use Rattle.routing_laws.specs.Filling.{put_plane, task};
+ghost use Rattle.routing.specs.Telling.{task_of};
 ghost use Rattle.routing_laws.specs.Plan.{Planned, after_gap, begun, chooser_after, job, planned};
 
 use crate::gaps::{all_linked, elevators};
 use mesh::{Place, Refusal, Sizes, Way};
-use routing::{Chooser, Filler, MOST};
+use routing::{Chooser, Filler, MOST, Task};
 
-// Fills one half of plane `plane` among the bytes of all planes.
-fn fill_plane<C: Chooser, F: Filler<C>>(
-    sizes: Sizes,
-    plane: u8,
-    way: Way,
-    elevators: &[Place],
-    filler: &F,
-    chooser: &mut C,
-    bytes: &mut [u8],
-)
-    requires some { 0 < length elevators.now }
-    requires few { length elevators.now ≤ sizes.width * sizes.height }
-    requires fits { plane * (sizes.width * sizes.height) + sizes.width * sizes.height ≤ length bytes.old }
-    ensures writes { bytes.new ≡ put_plane (sizes.width * sizes.height) plane way bytes.old (F.half filler.now (task sizes plane way elevators.now) chooser.old) }
-    ensures goes { chooser.new ≡ F.next filler.now (task sizes plane way elevators.now) chooser.old }
+// Fills one half of a plane among the bytes of all planes.
+fn fill_plane<C: Chooser, F: Filler<C>>(task: Task, filler: &F, chooser: &mut C, bytes: &mut [u8])
+    requires some { 0 < length task.elevators.now }
+    requires few { length task.elevators.now ≤ task.sizes.width * task.sizes.height }
+    requires fits { task.plane * (task.sizes.width * task.sizes.height) + task.sizes.width * task.sizes.height ≤ length bytes.old }
+    ensures writes { bytes.new ≡ put_plane (task.entry.sizes.width * task.entry.sizes.height) task.entry.plane task.entry.way bytes.old (F.half filler.now (task_of task.entry) chooser.old) }
+    ensures goes { chooser.new ≡ F.next filler.now (task_of task.entry) chooser.old }
 {
-    let area = sizes.area();
-    let start = usize::from(plane) * area;
-    filler.fill(
-        sizes,
-        plane,
-        way,
-        elevators,
-        chooser,
-        &mut bytes[start..start + area],
-    );
+    let area = task.sizes.area();
+    let start = usize::from(task.plane) * area;
+    filler.fill(task, chooser, &mut bytes[start..start + area]);
 }
 
 // Fills the two halves of a gap: Up of the plane below it, then Down of the plane above it.
@@ -54,8 +40,19 @@ fn fill_halves<C: Chooser, F: Filler<C>>(
     ensures writes { bytes.new ≡ put_plane (sizes.width * sizes.height) (gap + 1) Down (put_plane (sizes.width * sizes.height) gap Up bytes.old (F.half filler.now (task sizes gap Up elevators.now) chooser.old)) (F.half filler.now (task sizes (gap + 1) Down elevators.now) (F.next filler.now (task sizes gap Up elevators.now) chooser.old)) }
     ensures goes { chooser.new ≡ F.next filler.now (task sizes (gap + 1) Down elevators.now) (F.next filler.now (task sizes gap Up elevators.now) chooser.old) }
 {
-    fill_plane(sizes, gap, Way::Up, elevators, filler, chooser, bytes);
-    fill_plane(sizes, gap + 1, Way::Down, elevators, filler, chooser, bytes);
+    let below = Task {
+        sizes,
+        plane: gap,
+        way: Way::Up,
+        elevators,
+    };
+    let above = Task {
+        plane: gap + 1,
+        way: Way::Down,
+        ..below
+    };
+    fill_plane(below, filler, chooser, bytes);
+    fill_plane(above, filler, chooser, bytes);
 }
 
 // Lists the elevators of a gap, and fills its two halves.

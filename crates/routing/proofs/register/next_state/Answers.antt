@@ -2,7 +2,7 @@ use Rattle.std.proofs.Common.{◌*◌, ◌/◌, ◌%◌, ◌^◌, sym, ap, ◌�
 use lib.Bits.{bit_or}
 use Rattle.routing_laws.specs.Register.{Moved}
 use Rattle.routing_laws.proofs.Register.{moved, shifted_by_mask}
-use Rattle.routing.proofs.shifting.next_state.Goals as goal
+use Rattle.routing.proofs.register.next_state.Goals as goal
 
 pub returns : goal.returns
 returns c =
