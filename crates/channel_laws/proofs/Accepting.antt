@@ -1,6 +1,5 @@
 -- What an accepted call has passed, and what it takes to be accepted.
 use Rattle.std.proofs.Common.{◌≡◌, ℕ, ◌<◌, Bool, true, false, eqb, ltb, List, [], ◌∷◌, Some, None, Option, sym, refl, arith, Ok, Err}
-use Rattle.std.specs.List.{AllByRecursion}
 use Rattle.std.proofs.lemmas.Bool.{and_from, and_parts, eqb-true, lt-ltb, ltb-true, not-false, not_from_true, true≢false}
 use Rattle.mesh.specs.declared.compass.Directions.{Directions}
 use Rattle.mesh.specs.declared.grid.Router.{Router}
@@ -16,13 +15,18 @@ use Rattle.channel_laws.specs.Ports.{has_port, leads_out, neighbour, permitted_p
 use Rattle.channel_laws.specs.Calls.{Outcome, collect_reasons, collect_refusal, damaged, decided, entered_by, first, inject_reasons, inject_refusal, move_reasons, move_refusal, short}
 use Rattle.channel_laws.specs.Runs.{accepted}
 
+-- none of the reasons holds
+abbrev Free : List (Bool × Refusal) → Type 0
+Free [] = Unit {0}
+Free (reason ∷ rest) = (reason.0 ≡ false) × Free rest
+
 -- nothing is refused exactly when no reason holds
-none_held : (xs : List (Bool × Refusal)) → first xs ≡ None → AllByRecursion (λ t. t.0 ≡ false) xs
+none_held : (xs : List (Bool × Refusal)) → first xs ≡ None → Free xs
 none_held [] e = tt
 none_held ((true, x) ∷ xs) e = let z : ◌≡◌ {A = ℕ} 0 1 = cc in absurd (omega arith)
 none_held ((false, x) ∷ xs) e = (refl, none_held xs e)
 
-none_holds : (xs : List (Bool × Refusal)) → AllByRecursion (λ t. t.0 ≡ false) xs → first xs ≡ None
+none_holds : (xs : List (Bool × Refusal)) → Free xs → first xs ≡ None
 none_holds [] a = refl
 none_holds ((true, x) ∷ xs) a = absurd (true≢false a.0)
 none_holds ((false, x) ∷ xs) a = none_holds xs a.1

@@ -1,6 +1,5 @@
 -- The certificate holds after every list of calls.
-use Rattle.std.proofs.Common.{◌≡◌, ℕ, zero, suc, ◌-◌, ◌*◌, ◌<◌, ◌≤◌, Bool, true, false, ◌||◌, ltb, ◌⊎◌, List, [], ◌∷◌, length, Some, None, Option, sym, refl, ap, ◌∙◌, subst, inl, inr, append-nil, arith, Ok}
-use Rattle.std.specs.List.{ContainsAt as Has}
+use Rattle.std.proofs.Common.{◌≡◌, ℕ, zero, suc, ◌-◌, ◌*◌, ◌<◌, ◌≤◌, Bool, true, false, ◌||◌, ltb, ◌⊎◌, List, [], ◌∷◌, length, Some, None, Option, sym, refl, ap, ◌∙◌, subst, inl, inr, append-nil, arith, Ok, Contains}
 use Rattle.std.proofs.lemmas.Bool.{cond-false, cond-true, false≢true, le-ltb, ltb-false, or_from, or_parts}
 use Rattle.mesh.specs.declared.compass.Directions.{Directions}
 use Rattle.mesh.specs.declared.grid.Router.{Router}
@@ -31,19 +30,19 @@ use Rattle.channel_laws.proofs.Standing.{holds_one, never_stuck}
 use Rattle.channel_laws.proofs.Following.{Placed, one_place, placed_run}
 
 -- a packet that a record keeps is the record, and it is not empty
-only_one : (y x : Record) → Has (y ∷ []) x → y ≡ x
-only_one y x (zero, l, is) = is x
+only_one : (y x : Record) → Contains (y ∷ []) x → y ≡ x
+only_one y x (zero, l, is) = is
 only_one y x (suc k, l, is) = absurd (omega arith)
 
-kept_only : (y x : Record) → Has (kept y) x → (is_empty y ≡ false) × (y ≡ x)
+kept_only : (y x : Record) → Contains (kept y) x → (is_empty y ≡ false) × (y ≡ x)
 kept_only y x h = pick (is_empty y) refl
   where
     pick : (b : Bool) → is_empty y ≡ b → (is_empty y ≡ false) × (y ≡ x)
-    pick true e = let none = subst (λ xs. Has xs x) (cond-true (is_empty y) [] (y ∷ []) e) h in absurd (omega (arith, none.1))
-    pick false e = (e, only_one y x (subst (λ xs. Has xs x) (cond-false (is_empty y) [] (y ∷ []) e) h))
+    pick true e = let none = subst (λ xs. Contains xs x) (cond-true (is_empty y) [] (y ∷ []) e) h in absurd (omega (arith, none.1))
+    pick false e = (e, only_one y x (subst (λ xs. Contains xs x) (cond-false (is_empty y) [] (y ∷ []) e) h))
 
-keeps_it : (y : Record) → is_empty y ≡ false → Has (kept y) y
-keeps_it y e = subst (λ xs. Has xs y) (sym (cond-false (is_empty y) [] (y ∷ []) e)) (0, omega arith, λ _. refl)
+keeps_it : (y : Record) → is_empty y ≡ false → Contains (kept y) y
+keeps_it y e = subst (λ xs. Contains xs y) (sym (cond-false (is_empty y) [] (y ∷ []) e)) (0, omega arith, refl)
 
 -- what a collect hands out
 handed : (o : Option Refusal) (y x : Record) (new old : State) → (decided o (Collected y) new old).answer ≡ Ok (Collected x) → (o ≡ None) × (y ≡ x)

@@ -1,6 +1,5 @@
 -- A packet on its way: the plane it rides in, and what the rules of that plane give for its next move.
-use Rattle.std.proofs.Common.{◌≡◌, ℕ, ◌+◌, ◌-◌, ◌*◌, ◌<◌, ◌≤◌, Bool, true, false, cond, ◌&&◌, eqb, ltb, List, [], length, get_or, drop, None, Option, sym, refl, ap, ◌∙◌, subst, mul-le-mul_right, arith}
-use Rattle.std.specs.List.{ContainsAt as Has}
+use Rattle.std.proofs.Common.{◌≡◌, ℕ, ◌+◌, ◌-◌, ◌*◌, ◌<◌, ◌≤◌, Bool, true, false, cond, ◌&&◌, eqb, ltb, List, [], length, get_or, drop, None, Option, sym, refl, ap, ◌∙◌, subst, mul-le-mul_right, arith, Contains}
 use Rattle.std.proofs.lemmas.Nat.{mul-le}
 use Rattle.std.proofs.lemmas.List.{get_or-drop, get_or-map, get_or-take, length-drop, length-take-le}
 use Rattle.std.proofs.lemmas.Bool.{and_from, and_parts, both_ways, cond-false, cond-true, eq-eqb, eqb-false, le-ltb, lt-leb, lt-ltb, ltb-false, ltb-true, ne_eqb, or_from, not_from_true}
@@ -206,11 +205,11 @@ module _ (reply : Told → Directions) (s : State) (g : Guided reply s) (fits : 
       ∙ ap (half way) (get_or-take (w * h) (drop (r.z * (w * h)) s.bytes) n 0 within ∙ get_or-drop (r.z * (w * h)) s.bytes n 0 ∙ ap (λ k. get_or s.bytes k 0) there)
 
   -- elevators by the map, and by the plane's list
-  listed_is : (way : Way) (r : Router) → InStack s.sizes r → has_gap s.sizes.planes way r.z ≡ true → Has (plane_for reply s way r.z).elevators (place_of r) → is_elevator s way r ≡ true
+  listed_is : (way : Way) (r : Router) → InStack s.sizes r → has_gap s.sizes.planes way r.z ≡ true → Contains (plane_for reply s way r.z).elevators (place_of r) → is_elevator s way r ≡ true
   listed_is way r i t e =
       let w = s.sizes.width in
       let h = s.sizes.height in
-      eq-eqb _ _ ((all_listed w h (omega arith) (omega arith) s.links (gap_of way r.z)).sound (place_of r) (subst (λ es. Has es (place_of r)) (cond-true _ _ _ t) e))
+      eq-eqb _ _ ((all_listed w h (omega arith) (omega arith) s.links (gap_of way r.z)).sound (place_of r) (subst (λ es. Contains es (place_of r)) (cond-true _ _ _ t) e))
 
   ahead : (r : Router) (b : Buffer) (x : Record) → InStack s.sizes r → Sound reply s r b x → (r.z ≡ x.destination.z → ⊥) → has_gap s.sizes.planes (way_of (riding x)) r.z ≡ true
   ahead r b x i q ne = gap_ahead s.sizes.planes x.source.z r.z x.destination.z q.from.plane i.plane q.to.plane q.between ne

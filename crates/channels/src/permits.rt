@@ -7,7 +7,7 @@ use crate::held::Held;
 use crate::stacks::PlannedStack;
 use channel_laws::{Buffer, Ports};
 use mesh::{Direction, Directions, LINK, Place, Router, Trip, Way};
-use routing::Guide;
+use routing::{Guide, Request};
 
 fn side_of(buffer: Buffer) -> Option<Direction>
     ensures { result ≡ side_of buffer }
@@ -55,34 +55,30 @@ impl PlannedStack<'_> {
     pub(crate) fn permitted_ports<G: Guide>(&self, guide: &G, held: Held) -> Ports
         ensures { result ≡ permitted_ports (G.reply guide.now) (state_of self.now []) held.router held.buffer held.packet }
     {
-        let Held {
-            router,
-            buffer,
-            packet,
-            ..
-        } = held;
-        if router == packet.destination {
+        let Router { z, .. } = held.router;
+        let destination = held.packet.destination;
+        if held.router == destination {
             return Ports::planar_only(Directions::NONE);
         }
-        let sizes = self.sizes;
-        let place = Place::from(router);
-        let destination = Place::from(packet.destination);
-        let side = side_of(buffer);
-        if router.z == packet.destination.z {
-            return Ports::planar_only(guide.permits(
-                sizes,
-                place,
-                0,
-                destination,
-                side,
-                Trip::Bound,
-            ));
+        let bound = Request {
+            sizes: self.sizes,
+            place: Place::from(held.router),
+            half: 0,
+            destination: Place::from(destination),
+            side: side_of(held.buffer),
+            trip: Trip::Bound,
+        };
+        if z == destination.z {
+            return Ports::planar_only(guide.permits(bound));
         }
-        let way = way_to(router.z, packet.destination.z);
-        if self.is_elevator(way, router) {
+        let way = way_to(z, destination.z);
+        if self.is_elevator(way, held.router) {
             return Ports::way_only(way);
         }
-        let half = self.half_of(way, router);
-        Ports::planar_only(guide.permits(sizes, place, half, destination, side, Trip::Seeking))
+        Ports::planar_only(guide.permits(Request {
+            half: self.half_of(way, held.router),
+            trip: Trip::Seeking,
+            ..bound
+        }))
     }
 }
