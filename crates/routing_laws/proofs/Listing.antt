@@ -9,7 +9,7 @@ use Rattle.std.proofs.lemmas.List.Filters.{length-filter_both}
 use Rattle.std.proofs.lemmas.List.{get_or_default, get_or-drop, get_or-take, length-take-le, take_all}
 use Rattle.std.proofs.lemmas.Bool.{cond_both, true≢false, eq-eqb, eqb-true}
 use Rattle.mesh.specs.declared.grid.Place.{Place}
-use Rattle.mesh.specs.Layout.{Inside, cell, place_at}
+use Rattle.mesh.specs.Layout.{Inside, Shown, cell, place_at}
 use Rattle.routing_laws.specs.Elevators.{Joined, Listed, elevators, linked, origin, places}
 
 -- what is kept was there and passes, and what was there and passes is kept
@@ -116,6 +116,16 @@ module _ (w h : ℕ) (some_columns : 0 < w) (some_rows : 0 < h) where
       let read = part_read links g k a e start end here in
       let one : get_or (take (e - a) (drop a links)) k 0 ≡ 1 = read ∙ ap (λ p. get_or links (cell w h g p) 0) (place_cell 0 q.at q.inside) ∙ q.link in
       (k, omega arith, get_or_default (take (e - a) (drop a links)) k 1 0 (omega arith) ∙ one)
+
+  -- the same in the words of the link map
+  part_end : (g : ℕ) → (g + 1) * (w * h) ≡ g * (w * h) + w * h
+  part_end g = omega arith
+
+  pub joined_shown : (links : List ℕ) (g : ℕ) → g * (w * h) + w * h ≤ length links → Shown (w * h) links g → Joined w h links g
+  joined_shown links g = joined_from links g (g * (w * h)) ((g + 1) * (w * h)) refl (part_end g)
+
+  pub shown_joined : (links : List ℕ) (g : ℕ) → g * (w * h) + w * h ≤ length links → Joined w h links g → Shown (w * h) links g
+  shown_joined links g = joined_has links g (g * (w * h)) ((g + 1) * (w * h)) refl (part_end g)
 
   pub joined_some : (links : List ℕ) (g : ℕ) → Joined w h links g → 0 < length (elevators w h links g)
   joined_some links g q = let e = (all_listed links g).complete q.at q.inside q.link in omega (arith, e.1)
