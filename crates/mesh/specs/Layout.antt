@@ -1,5 +1,7 @@
 -- The ranges of the sizes, and where things stand in the link map and among the routers.
-use Rattle.std.specs.Prelude.{◌≡◌, ℕ, ◌+◌, ◌*◌, ◌/◌, ◌%◌, ◌<◌, ◌≤◌}
+use Rattle.std.specs.Prelude.{◌≡◌, ℕ, ◌+◌, ◌*◌, ◌/◌, ◌%◌, ◌<◌, ◌≤◌, Bool, ◌&&◌, List, Contains, nat_lt}
+use Rattle.std.specs.List.{between}
+use Rattle.mesh.specs.declared.grid.Link.{Link}
 use Rattle.mesh.specs.declared.grid.Place.{Place}
 use Rattle.mesh.specs.declared.grid.Router.{Router}
 use Rattle.mesh.specs.declared.stack.Sizes.{Sizes}
@@ -35,3 +37,19 @@ place_at w h i = record { x = i % w; y = i / w % h }
 -- the i-th router of the stack, plane by plane and row by row; past the last one the count starts anew
 abbrev pub router_nth : ℕ → ℕ → ℕ → ℕ → Router
 router_nth w h k i = record { x = i % w; y = i / w % h; z = i / w / h % k }
+
+-- the place of a router within its plane
+abbrev pub place_of : Router → Place
+place_of r = record { x = r.x; y = r.y }
+
+-- the place of a link within its gap
+abbrev pub foot_of : Link → Place
+foot_of l = record { x = l.x; y = l.y }
+
+-- whether a router is one of the stack
+abbrev pub in_stack : Sizes → Router → Bool
+in_stack s r = nat_lt r.x s.width && (nat_lt r.y s.height && nat_lt r.z s.planes)
+
+-- a gap has a link in the link map, where each gap takes `area` bytes and only byte 1 is a link
+abbrev pub Shown : ℕ → List ℕ → ℕ → Type 0
+Shown area links g = Contains (between (g * area) ((g + 1) * area) links) 1

@@ -1,6 +1,7 @@
 -- The number of each refusal.
-use Rattle.std.specs.Prelude.{ℕ}
+use Rattle.std.specs.Prelude.{◌≡◌, ◌≢◌, ℕ, Ok, Err, Result}
 use Rattle.mesh.specs.declared.refusals.Refusal.{Refusal}
+use Rattle.mesh.specs.declared.refusals.UnknownNumber.{UnknownNumber}
 use Rattle.mesh.specs.declared.refusals.Refusal.TheVariants.{InputEnds, UnknownLetter, OutOfRange, OutOfPlace, OneSet, LinkOutside, LinkTwice, GapUnlinked, ShortBuffer, ZeroState, Outside, Occupied, EmptyBuffer, Damaged, Arrived, NotPermitted, LeavesStack, NotArrived}
 
 abbrev pub number_of : Refusal → ℕ
@@ -22,3 +23,8 @@ number_of Arrived = 15
 number_of NotPermitted = 16
 number_of LeavesStack = 17
 number_of NotArrived = 18
+
+-- what a number is: that of a refusal, or of none
+abbrev pub NumberOf : ℕ → Result Refusal UnknownNumber → Type 0
+NumberOf n (Ok x) = number_of x ≡ n
+NumberOf n (Err e) = (x : Refusal) → number_of x ≢ n

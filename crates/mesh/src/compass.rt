@@ -1,24 +1,26 @@
 // Directions within a plane, sets of them, and the two ways out of it.
 ghost use Rattle.std.specs.Prelude.{◌≡◌};
-ghost use Rattle.mesh.specs.Compass.{distance, has, toward};
+ghost use Rattle.mesh.specs.Compass.{both, distance, has, joined, only, toward};
 
 use crate::grid::Place;
+use std::ops::{BitAnd, BitOr};
 
-#[derive(Clone, Copy)]
+// Each direction with its bit of a half-byte.
+#[derive(Clone, Copy, PartialEq, Eq, Debug)]
 pub enum Direction {
-    North,
-    East,
-    South,
-    West,
+    North = 1,
+    East = 2,
+    South = 4,
+    West = 8,
 }
 
-#[derive(Clone, Copy)]
+#[derive(Clone, Copy, PartialEq, Eq, Debug)]
 pub enum Way {
     Up,
     Down,
 }
 
-#[derive(Clone, Copy)]
+#[derive(Clone, Copy, PartialEq, Eq, Debug)]
 pub struct Directions {
     pub north: bool,
     pub east: bool,
@@ -27,6 +29,37 @@ pub struct Directions {
 }
 
 impl Directions {
+    pub const NONE: Directions = Directions {
+        north: false,
+        east: false,
+        south: false,
+        west: false,
+    };
+
+    // One direction alone.
+    pub fn only(direction: Direction) -> Directions
+        ensures { result ≡ only direction }
+    {
+        match direction {
+            Direction::North => Directions {
+                north: true,
+                ..Directions::NONE
+            },
+            Direction::East => Directions {
+                east: true,
+                ..Directions::NONE
+            },
+            Direction::South => Directions {
+                south: true,
+                ..Directions::NONE
+            },
+            Direction::West => Directions {
+                west: true,
+                ..Directions::NONE
+            },
+        }
+    }
+
     // The directions in which `to` lies from `from`: none where they are the same place.
     pub fn toward(from: Place, to: Place) -> Directions
         ensures { result ≡ toward from to }
@@ -51,6 +84,38 @@ impl Directions {
     }
 }
 
+// The directions that two sets share.
+impl BitAnd for Directions {
+    type Output = Directions;
+
+    ghost bitand_gives = { λ s t r. r ≡ both s t };
+
+    fn bitand(self, other: Directions) -> Directions {
+        Directions {
+            north: self.north & other.north,
+            east: self.east & other.east,
+            south: self.south & other.south,
+            west: self.west & other.west,
+        }
+    }
+}
+
+// The directions that either of two sets has.
+impl BitOr for Directions {
+    type Output = Directions;
+
+    ghost bitor_gives = { λ s t r. r ≡ joined s t };
+
+    fn bitor(self, other: Directions) -> Directions {
+        Directions {
+            north: self.north | other.north,
+            east: self.east | other.east,
+            south: self.south | other.south,
+            west: self.west | other.west,
+        }
+    }
+}
+
 impl Place {
     // The number of moves between two places of a plane.
     pub fn distance(self, other: Place) -> u16
@@ -61,7 +126,7 @@ impl Place {
 }
 
 // What a packet does in a plane: it seeks an elevator for its way, or it is bound for a router of this plane.
-#[derive(Clone, Copy)]
+#[derive(Clone, Copy, PartialEq, Eq, Debug)]
 pub enum Trip {
     Seeking,
     Bound,

@@ -7,12 +7,7 @@ use crate::compass::{Direction, Directions, Way};
 fn bit(direction: Direction) -> u8
     ensures { result ≡ weight direction }
 {
-    match direction {
-        Direction::North => 1,
-        Direction::East => 2,
-        Direction::South => 4,
-        Direction::West => 8,
-    }
+    direction as u8
 }
 
 // The bit of a direction, where the set holds it.

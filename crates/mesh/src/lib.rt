@@ -6,6 +6,7 @@
 mod compass;
 mod grid;
 mod halves;
+mod links;
 mod measures;
 mod refusals;
 mod stack;
@@ -14,7 +15,8 @@ mod turns;
 
 pub use compass::{Direction, Directions, Trip, Way};
 pub use grid::{Link, Place, Router};
-pub use refusals::Refusal;
-pub use stack::Sizes;
+pub use links::{LINK, MAP_BYTES};
+pub use refusals::{Refusal, UnknownNumber};
+pub use stack::{MOST_COLUMNS, MOST_PLANES, MOST_ROWS, Sizes};
 pub use turning::LAST_SET;
 pub use turns::TurnOrder;

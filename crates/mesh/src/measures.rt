@@ -1,17 +1,23 @@
 // How sizes are made, and where a place lies in a map or among the routers.
-ghost use Rattle.std.specs.Prelude.{◌≡◌, ◌*◌, ◌<◌, MatchResult};
+ghost use Rattle.std.specs.Prelude.{◌≡◌, ◌*◌, ◌<◌, true, MatchResult};
 ghost use Rattle.mesh.specs.declared.refusals.Refusal.TheVariants.{OutOfRange};
-ghost use Rattle.mesh.specs.Layout.{cell, place_at, Range, router_nth, SameSizes};
+ghost use Rattle.mesh.specs.Layout.{cell, in_stack, place_at, Range, router_nth, SameSizes};
 
 use crate::grid::{Place, Router};
 use crate::refusals::Refusal;
-use crate::stack::Sizes;
+use crate::stack::{MOST_COLUMNS, MOST_PLANES, MOST_ROWS, Sizes};
 
 impl Sizes {
     pub fn new(width: u8, height: u8, planes: u8) -> Result<Sizes, Refusal>
         ensures { MatchResult result (λ s. SameSizes s width height planes) (λ e. (e ≡ OutOfRange) × (Range width height planes → ⊥)) }
     {
-        if width < 1 || width > 24 || height < 1 || height > 24 || planes < 1 || planes > 8 {
+        if width < 1
+            || width > MOST_COLUMNS
+            || height < 1
+            || height > MOST_ROWS
+            || planes < 1
+            || planes > MOST_PLANES
+        {
             return Err(Refusal::OutOfRange);
         }
         Ok(Sizes {
@@ -19,6 +25,13 @@ impl Sizes {
             height,
             planes,
         })
+    }
+
+    // Whether the stack has this router.
+    pub fn has(self, router: Router) -> bool
+        ensures { result ≡ in_stack self router }
+    {
+        router.x < self.width && router.y < self.height && router.z < self.planes
     }
 
     // The number of routers of a plane.
@@ -57,7 +70,8 @@ impl Sizes {
 
     // The i-th router of the stack: the inverse of `index`. Past the last router the count starts anew.
     pub fn router_at(self, i: usize) -> Router
-        ensures { result ≡ router_nth self.width self.height self.planes i }
+        ensures value { result ≡ router_nth self.width self.height self.planes i }
+        ensures within { in_stack self result ≡ true }
     {
         let Place { x, y } = self.place_at(i);
         let plane = i / usize::from(self.width) / usize::from(self.height);

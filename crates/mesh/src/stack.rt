@@ -1,6 +1,13 @@
-// The sizes of a stack. A value of this type exists only in range.
+// The sizes of a stack.
 ghost use Rattle.std.specs.Prelude.{◌≤◌};
 
+pub const MOST_COLUMNS: u8 = 24;
+
+pub const MOST_ROWS: u8 = 24;
+
+pub const MOST_PLANES: u8 = 8;
+
+// A value of this type exists only in range.
 #[derive(Clone, Copy)]
 pub struct Sizes {
     pub width: u8,
