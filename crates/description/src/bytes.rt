@@ -14,6 +14,7 @@ pub(crate) fn letter(input: &[u8], place: usize) -> Result<(char, &[u8]), ByteFa
     }
 }
 
+// A body is split by a slice pattern that names its fields: so each kind of record has a function of its own.
 pub(crate) fn sizes_body(body: &[u8], place: usize) -> Result<(Extent, &[u8]), ByteFault>
     ensures { MatchResult result (λ v. body.now ≡ extent_body v.0 ++ v.1.now) (λ f. (f.place ≡ place) × (length body.now < 3)) }
 {
