@@ -5,7 +5,7 @@ use Rattle.firmware.proofs.tables.tulgravyn_inject.Goals as goal
 
 pub returns-in-Ok : goal.returns-in-Ok
 returns-in-Ok c =
-    opened c.in-Ok.open.sizes c.in-Ok.open.scheme c.in-Ok.ensures
+    opened c.in-Ok.opened.sizes c.in-Ok.opened.scheme c.in-Ok.ensures
     (c.code.ensures ∙ inject_code c.inject.result ∙ ap code c.inject.ensures.answers, c.inject.ensures.leaves)
 
 pub returns-in-Err : goal.returns-in-Err
