@@ -12,10 +12,9 @@ use Rattle.channel_laws.specs.Buffers.{buffer_count, buffer_of, port_at, port_co
 use Rattle.channel_laws.specs.Calls.{damaged, entered_by, first, move_refusal, packet_reasons, short}
 use Rattle.channel_laws.specs.Ports.{has_port, leads_out, neighbour, permitted_ports, same_router}
 use Rattle.channel_laws.specs.Table.{State, is_empty, record_at}
-use Rattle.channel_laws.proofs.Accepting.{moves_on}
+use Rattle.channel_laws.proofs.Accepting.{moves_on, stack_in}
 use Rattle.channels.specs.declared.held.Held.{Held}
 use Rattle.channels.specs.Results.{Found}
-use Rattle.channels.proofs.Within.{within}
 
 -- what a port's number stands for
 known : (inside : Bool) (q p : Port) → cond inside (Ok q) (Err Outside) ≡ Ok p → (inside ≡ true) × (p ≡ q)
@@ -55,7 +54,7 @@ move_goes reply s r n m h p found port long number away permitted inside free =
     let x = record_at s r (buffer_of n) in
     moves_on reply s r n m record {
       long = long;
-      at = within s.sizes r found.inside;
+      at = stack_in s.sizes r found.inside;
       buffer = ltb-true n 11 found.coded;
       port = ltb-true m 6 number;
       full = subst (λ y. is_empty y ≡ false) found.packet found.full;

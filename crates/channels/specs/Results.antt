@@ -6,7 +6,8 @@ use Rattle.mesh.specs.declared.refusals.Refusal.{Refusal}
 use Rattle.mesh.specs.declared.stack.Sizes.{Sizes}
 use Rattle.mesh.specs.Layout.{in_stack}
 use Rattle.routing_laws.specs.Chains.{Told}
-use Rattle.channel_laws.specs.declared.calls.Done.TheVariants.{Collected, Injected, Moved}
+use Rattle.channel_laws.specs.declared.calls.Done.{Done}
+use Rattle.channel_laws.specs.declared.calls.Done.TheVariants.{Collected, Injected}
 use Rattle.channel_laws.specs.declared.records.Record.{Record}
 use Rattle.channel_laws.specs.Buffers.{buffer_count, buffer_of, port_of}
 use Rattle.channel_laws.specs.Calls.{Answer, Outcome, carried, cleared, collect_refusal, damaged, decided, entered_by, inject_refusal, injected, move_refusal, taken}
@@ -19,18 +20,10 @@ use Rattle.channels.specs.declared.stacks.PlannedStack.{PlannedStack}
 abbrev pub state_of : PlannedStack → List Record → State
 state_of p table = state p.sizes p.map.now p.bytes.now table
 
--- a result as an answer
-abbrev pub inject_answer : Result (Unit {0}) Refusal → Answer
-inject_answer (Ok _) = Ok Injected
-inject_answer (Err x) = Err x
-
-abbrev pub move_answer : Result (Unit {0}) Refusal → Answer
-move_answer (Ok _) = Ok Moved
-move_answer (Err x) = Err x
-
-abbrev pub collect_answer : Result Record Refusal → Answer
-collect_answer (Ok x) = Ok (Collected x)
-collect_answer (Err x) = Err x
+-- a result as an answer, by what an accepted call did
+abbrev pub answer_by : {A : Type 0} → (A → Done) → Result A Refusal → Answer
+answer_by done (Ok x) = Ok (done x)
+answer_by done (Err x) = Err x
 
 -- a refusal, if any, as a result
 abbrev pub result_of : Option Refusal → Result (Unit {0}) Refusal

@@ -2,7 +2,8 @@
 ghost use Rattle.std.specs.Prelude.{◌≡◌, ◌<◌, ◌≤◌, [], length};
 ghost use Rattle.channel_laws.specs.Calls.{clear_refusal, outcome, ports_reply};
 ghost use Rattle.channel_laws.specs.declared.calls.Call.TheVariants.{Move};
-ghost use Rattle.channels.specs.Results.{clearing, collect_answer, collection, inject_answer, injection, move_answer, result_of, state_of};
+ghost use Rattle.channel_laws.specs.declared.calls.Done.TheVariants.{Collected, Injected, Moved};
+ghost use Rattle.channels.specs.Results.{answer_by, clearing, collection, injection, result_of, state_of};
 ghost use Rattle.channel_laws.specs.Table.{state};
 
 use crate::spots::{record_number, table_size};
@@ -33,7 +34,7 @@ impl PlannedStack<'_> {
         destination: Router,
         tag: u32,
     ) -> Result<(), Refusal>
-        ensures answers { inject_answer result ≡ (injection (state_of self.now table.old) source destination tag).answer }
+        ensures answers { answer_by (λ _. Injected) result ≡ (injection (state_of self.now table.old) source destination tag).answer }
         ensures leaves { table.new ≡ (injection (state_of self.now table.old) source destination tag).after.table }
     {
         self.check_lengths(table)?;
@@ -63,7 +64,7 @@ impl PlannedStack<'_> {
         buffer: u8,
         port: u8,
     ) -> Result<(), Refusal>
-        ensures answers { move_answer result ≡ (outcome (G.reply guide.now) (state_of self.now table.old) (Move router buffer port)).answer }
+        ensures answers { answer_by (λ _. Moved) result ≡ (outcome (G.reply guide.now) (state_of self.now table.old) (Move router buffer port)).answer }
         ensures leaves { table.new ≡ (outcome (G.reply guide.now) (state_of self.now table.old) (Move router buffer port)).after.table }
     {
         let step = self.checked_step(guide, table, router, buffer, port)?;
@@ -79,7 +80,7 @@ impl PlannedStack<'_> {
         router: Router,
         buffer: u8,
     ) -> Result<Record, Refusal>
-        ensures answers { collect_answer result ≡ (collection (state_of self.now table.old) router buffer).answer }
+        ensures answers { answer_by Collected result ≡ (collection (state_of self.now table.old) router buffer).answer }
         ensures leaves { table.new ≡ (collection (state_of self.now table.old) router buffer).after.table }
     {
         self.check_lengths(table)?;

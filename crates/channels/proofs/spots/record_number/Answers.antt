@@ -1,8 +1,8 @@
 use Rattle.std.proofs.Common.{◌≡◌, ◌+◌, ◌*◌, ◌<◌, sym, ap, ◌∙◌, subst}
 use Rattle.mesh.specs.Layout.{cell}
 use Rattle.channel_laws.specs.Table.{record_number, table_size}
+use Rattle.channel_laws.proofs.Accepting.{stack_in}
 use Rattle.channel_laws.proofs.Index.{numbered}
-use Rattle.channels.proofs.Within.{within}
 use Rattle.channels.proofs.spots.record_number.Goals as goal
 use Rattle.channels.proofs.spots.record_number.Goals.{After-number}
 
@@ -14,4 +14,4 @@ pub returns : goal.returns
 returns c =
     let s = c.args.sizes in
     let e = number (goal.at.returns c).After-number in
-    record { value = e; below = subst (λ n. n < table_size s) (sym e) ((numbered s).below c.args.router c.args.buffer (within s c.args.router c.requires)) }
+    record { value = e; below = subst (λ n. n < table_size s) (sym e) ((numbered s).below c.args.router c.args.buffer (stack_in s c.args.router c.requires)) }
