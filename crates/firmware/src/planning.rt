@@ -1,4 +1,4 @@
-// Planning a stack, and listing its location bytes.
+// Planning a stack, and listing its location bytes. Schemes, tie rules and answers are numbers: C has no other enums.
 ghost use Rattle.std.specs.Prelude.{◌≡◌, MatchResult};
 ghost use Rattle.mesh.specs.Numbers.{number_of};
 ghost use Rattle.firmware.specs.Opening.{Called};
@@ -47,6 +47,7 @@ fn plan_by(opened: Opened, tie: u8, state: &mut u16, map: &[u8], bytes: &mut [u8
     }
 }
 
+// Plans a stack by its scheme and a tie rule; `state` is that of a register, before and after.
 #[unsafe(no_mangle)]
 pub extern "C" fn tulgravyn_plan(
     stack: &Stack,
@@ -63,6 +64,7 @@ pub extern "C" fn tulgravyn_plan(
     }
 }
 
+// Lists the location bytes of a plan; `count` is the number of bytes written, and stays where the call is refused.
 #[unsafe(no_mangle)]
 pub extern "C" fn tulgravyn_list_plan(
     stack: &Stack,

@@ -37,6 +37,7 @@ fn stack_of(description: Description, old: Stack) -> Stack
     }
 }
 
+// Reads a description into `map` and `stack`; a fault is written to `fault`, and `stack` stays.
 #[unsafe(no_mangle)]
 pub extern "C" fn tulgravyn_read(
     input: &[u8],
@@ -72,6 +73,7 @@ fn found_fault(fault: Fault) -> Option<StackFault>
     }
 }
 
+// Lists a fault that was read; `count` is the number of bytes written, and stays where the call is refused.
 #[unsafe(no_mangle)]
 pub extern "C" fn tulgravyn_list_fault(fault: &Fault, out: &mut [u8], count: &mut usize) -> u8
     ensures { ListedFault fault.now out.old out.new count.old count.new result }

@@ -1,4 +1,5 @@
-// The calls on a channel table.
+// The calls on a channel table. C lends each buffer by itself and takes a number for an answer, so these are functions of
+// many parameters, and each turns a refusal into its number.
 ghost use Rattle.std.specs.Prelude.{◌≡◌, ◌≤◌, cond, []};
 ghost use Rattle.mesh.specs.Numbers.{number_of};
 ghost use Rattle.channel_laws.specs.declared.calls.Call.TheVariants.{Move};
@@ -15,6 +16,7 @@ use channel_laws::{Ports, Record};
 use channels::{PlannedStack, clear};
 use mesh::Router;
 
+// Empties every record of the routers' buffers.
 #[unsafe(no_mangle)]
 pub extern "C" fn tulgravyn_clear(stack: &Stack, table: &mut [Record]) -> u8
     ensures { Called stack.now (λ s _. (result ≡ code (result_of (clear_refusal (state s [] [] table.old)))) × (table.new ≡ clearing s table.old (clear_refusal (state s [] [] table.old)))) (λ x. (result ≡ number_of x) × (table.new ≡ table.old)) }
@@ -25,6 +27,7 @@ pub extern "C" fn tulgravyn_clear(stack: &Stack, table: &mut [Record]) -> u8
     }
 }
 
+// Injects a packet into its source's Local buffer.
 #[unsafe(no_mangle)]
 pub extern "C" fn tulgravyn_inject(
     stack: &Stack,
@@ -50,6 +53,7 @@ pub extern "C" fn tulgravyn_inject(
     }
 }
 
+// Carries a packet out of its buffer by a permitted port.
 #[unsafe(no_mangle)]
 pub extern "C" fn tulgravyn_move(
     stack: &Stack,
@@ -75,6 +79,7 @@ pub extern "C" fn tulgravyn_move(
     }
 }
 
+// Hands out a packet that is at its destination in `packet`, which stays where the call is refused.
 #[unsafe(no_mangle)]
 pub extern "C" fn tulgravyn_collect(
     stack: &Stack,
@@ -126,6 +131,7 @@ fn port_bits(ports: Ports) -> u8
         + bit(down, 32)
 }
 
+// Writes the ports that a packet is permitted into `bits`, which stays where the call is refused.
 #[unsafe(no_mangle)]
 pub extern "C" fn tulgravyn_ports(
     stack: &Stack,
