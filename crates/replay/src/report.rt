@@ -1,5 +1,4 @@
 // What a replay prints.
-use anyhow::anyhow;
 use channel_laws::{Answer, Call, Ports, Record};
 use description_laws::StackFault;
 use listing::{list_fault, list_plan};
@@ -60,26 +59,21 @@ impl fmt::Display for Numbers {
 
 pub(crate) fn write_fault<W: Write>(out: &mut W, fault: StackFault) -> anyhow::Result<()> {
     let mut text = [0; TEXT];
-    let Ok(count) = list_fault(fault, &mut text) else {
-        return Err(anyhow!("the listing does not fit"));
-    };
-    out.write_all(text.get(0..count).unwrap_or(&[]))?;
+    let count = list_fault(fault, &mut text)?;
+    out.write_all(&text[..count])?;
     Ok(())
 }
 
 pub(crate) fn write_plan<W: Write>(out: &mut W, sizes: Sizes, bytes: &[u8]) -> anyhow::Result<()> {
     let mut text = [0; TEXT];
-    let Ok(count) = list_plan(sizes, bytes, &mut text) else {
-        return Err(anyhow!("the listing does not fit"));
-    };
+    let count = list_plan(sizes, bytes, &mut text)?;
     writeln!(out, "plan ok")?;
-    out.write_all(text.get(0..count).unwrap_or(&[]))?;
+    out.write_all(&text[..count])?;
     Ok(())
 }
 
 pub(crate) fn write_refusal<W: Write>(out: &mut W, refusal: Refusal) -> anyhow::Result<()> {
-    let number = refusal.number();
-    writeln!(out, "plan refused {number}")?;
+    writeln!(out, "plan {refusal}")?;
     Ok(())
 }
 
@@ -99,10 +93,7 @@ fn write_answer<W: Write>(out: &mut W, call: Call, answer: Answer) -> io::Result
             let packet = Packet(record);
             writeln!(out, "{word} ok {packet}")
         }
-        Answer::Refused(refusal) => {
-            let number = refusal.number();
-            writeln!(out, "{word} refused {number}")
-        }
+        Answer::Refused(refusal) => writeln!(out, "{word} {refusal}"),
     }
 }
 
