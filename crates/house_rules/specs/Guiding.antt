@@ -1,12 +1,11 @@
 -- A guide that looks at the destination, and the fillings that are lawful for it.
-use Rattle.std.specs.Prelude.{ℕ, ◌<◌, Bool, cond, ◌||◌, List, length}
-use Rattle.std.specs.List.{ContainsAt as Has}
+use Rattle.std.specs.Prelude.{ℕ, ◌<◌, Bool, cond, ◌||◌, List, length, Contains}
 use Rattle.mesh.specs.declared.compass.Directions.{Directions}
 use Rattle.mesh.specs.declared.grid.Place.{Place}
 use Rattle.mesh.specs.declared.turns.TurnOrder.{TurnOrder}
-use Rattle.mesh.specs.Compass.{toward}
+use Rattle.mesh.specs.Compass.{both, toward}
 use Rattle.routing_laws.specs.Chains.{Told}
-use Rattle.routing_laws.specs.Guides.{both, pointing_lawful, pointing_reply}
+use Rattle.routing_laws.specs.Guides.{pointing_lawful, pointing_reply}
 
 -- whether a set holds any direction
 abbrev pub some_direction : Directions → Bool
@@ -24,7 +23,7 @@ toward_reply o t = leaning (pointing_reply o t) (toward t.place t.destination)
 pub record ForSome (o : TurnOrder) (w h : ℕ) (es : List Place) (filling : List ℕ) : Type 0 where
   pub served : List Place
   pub some : 0 < length served
-  pub listed : (e : Place) → Has served e → Has es e
+  pub listed : (e : Place) → Contains served e → Contains es e
   pub pointed : pointing_lawful o w h served filling
 
 -- lawful; without elevators nobody seeks, and any filling will do

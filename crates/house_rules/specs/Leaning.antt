@@ -1,17 +1,16 @@
 -- The guide that looks at the destination keeps the rules: it permits less than the pointing guide, and still something.
-use Rattle.std.specs.Prelude.{◌≡◌, ℕ, ◌<◌, Bool, true, false, cond, ◌||◌, List, [], ◌∷◌, refl}
+use Rattle.std.specs.Prelude.{◌≡◌, ℕ, ◌<◌, Bool, true, false, cond, ◌||◌, List, [], ◌∷◌, refl, Contains}
 use Rattle.std.proofs.Common.{arith}
-use Rattle.std.specs.List.{ContainsAt as Has}
 use Rattle.std.proofs.lemmas.Bool.{and_parts, false≢true}
 use Rattle.mesh.specs.declared.compass.Direction.{Direction}
 use Rattle.mesh.specs.declared.compass.Direction.TheVariants.{North, East, South, West}
 use Rattle.mesh.specs.declared.compass.Directions.{Directions}
 use Rattle.mesh.specs.declared.grid.Place.{Place}
 use Rattle.mesh.specs.declared.turns.TurnOrder.{TurnOrder}
-use Rattle.mesh.specs.Compass.{has, toward}
+use Rattle.mesh.specs.Compass.{both, has, toward}
 use Rattle.mesh.specs.Layout.{Inside}
 use Rattle.routing_laws.specs.Chains.{Rules, Told, plane_of}
-use Rattle.routing_laws.specs.Guides.{both, pointing_reply}
+use Rattle.routing_laws.specs.Guides.{pointing_reply}
 use Rattle.routing_laws.proofs.Lawful.{none_lawful}
 use Rattle.routing_laws.proofs.Pointing.{pointing_rules}
 use Rattle.house_rules.specs.Guiding.{lawful_for, some_direction, toward_reply}
@@ -49,7 +48,7 @@ module _ (o : TurnOrder) where
   some_left : (t : Told) (d : Direction) → has d (pointing_reply o t) ≡ true → (e : Direction) × (has e (toward_reply o t) ≡ true)
   some_left t d = let ahead = toward t.place t.destination in lean_some (some_direction (both (pointing_reply o t) ahead)) (pointing_reply o t) ahead d refl
 
-  pub toward_rules : (w h : ℕ) (es : List Place) (filling : List ℕ) → 0 < w → 0 < h → ((e : Place) → Has es e → Inside w h e) → lawful_for o w h es filling → Rules (plane_of w h es filling (toward_reply o))
+  pub toward_rules : (w h : ℕ) (es : List Place) (filling : List ℕ) → 0 < w → 0 < h → ((e : Place) → Contains es e → Inside w h e) → lawful_for o w h es filling → Rules (plane_of w h es filling (toward_reply o))
   toward_rules w h [] filling some_columns some_rows inside lawful =
       narrowed_rules (plane_of w h [] filling (pointing_reply o)) [] (toward_reply o) (λ e m. m) (λ l. l) fewer some_left (pointing_rules o w h [] filling some_columns some_rows inside (none_lawful o w h filling))
   toward_rules w h (x ∷ es) filling some_columns some_rows inside lawful =

@@ -1,6 +1,5 @@
 -- A guide that permits less, and still something, keeps the rules that another keeps; also where more elevators end a trip.
-use Rattle.std.specs.Prelude.{◌≡◌, ℕ, ◌<◌, true, List, length, Option}
-use Rattle.std.specs.List.{ContainsAt as Has}
+use Rattle.std.specs.Prelude.{◌≡◌, ℕ, ◌<◌, true, List, length, Option, Contains}
 use Rattle.mesh.specs.declared.compass.Direction.{Direction}
 use Rattle.mesh.specs.declared.compass.Directions.{Directions}
 use Rattle.mesh.specs.declared.compass.Trip.{Trip}
@@ -10,7 +9,7 @@ use Rattle.mesh.specs.Compass.{has}
 use Rattle.routing_laws.specs.Chains.{Chain, Ended, Plane, Rules, Starts, Told, move, plane_of, start, told}
 
 module _ (P : Plane) (es : List Place) (reply : Told → Directions)
-    (more : (e : Place) → Has P.elevators e → Has es e)
+    (more : (e : Place) → Contains P.elevators e → Contains es e)
     (starting : 0 < length es → 0 < length P.elevators)
     (fewer : (t : Told) (d : Direction) → has d (reply t) ≡ true → has d (P.reply t) ≡ true)
     (some : (t : Told) (d : Direction) → has d (P.reply t) ≡ true → (e : Direction) × (has e (reply t) ≡ true)) where

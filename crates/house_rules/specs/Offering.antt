@@ -1,7 +1,6 @@
 -- What the filler writes is lawful for the guide that looks at the destination.
-use Rattle.std.specs.Prelude.{ℕ, ◌<◌, ◌≤◌, List, [], ◌∷◌, length, filter}
+use Rattle.std.specs.Prelude.{ℕ, ◌<◌, ◌≤◌, List, [], ◌∷◌, length, filter, Contains}
 use Rattle.std.proofs.Common.{arith}
-use Rattle.std.specs.List.{ContainsAt as Has}
 use Rattle.mesh.specs.declared.grid.Place.{Place}
 use Rattle.mesh.specs.declared.turns.TurnOrder.{TurnOrder}
 use Rattle.routing_laws.specs.Filling.{Asked, Task}
@@ -16,7 +15,11 @@ either_some : (xs ys : List Place) → 0 < length ys → 0 < length (or_else xs 
 either_some [] ys l = l
 either_some (x ∷ xs) ys l = omega arith
 
-either_has : (xs ys : List Place) (e : Place) → (Has xs e → Has ys e) → Has (or_else xs ys) e → Has ys e
+pub either_few : (xs ys : List Place) → length xs ≤ length ys → length (or_else xs ys) ≤ length ys
+either_few [] ys l = omega arith
+either_few (x ∷ xs) ys l = l
+
+either_has : (xs ys : List Place) (e : Place) → (Contains xs e → Contains ys e) → Contains (or_else xs ys) e → Contains ys e
 either_has [] ys e from h = h
 either_has (x ∷ xs) ys e from h = from h
 

@@ -7,8 +7,8 @@ ghost use Rattle.routing_laws.proofs.Ties.{tie_long, tie_small};
 ghost use Rattle.house_rules.specs.Offering.{inner_lawful};
 
 use crate::toward::TowardDestination;
-use mesh::{Place, Sizes, TurnOrder, Way};
-use routing::{Chooser, Filler, MOST, RandomOffline, keep};
+use mesh::{Place, Sizes, TurnOrder};
+use routing::{Chooser, Filler, RandomOffline, Task, passing};
 
 #[derive(Clone, Copy)]
 pub struct InnerElevators {
@@ -20,33 +20,6 @@ fn is_inner(sizes: Sizes, place: Place) -> bool
     ensures { result ≡ inner sizes.width sizes.height place }
 {
     0 < place.x && place.x < sizes.width - 1 && 0 < place.y && place.y < sizes.height - 1
-}
-
-// Lists the inner elevators, and replies with their number.
-fn list_inner(sizes: Sizes, elevators: &[Place], room: &mut [Place]) -> usize
-    requires { length elevators.now ≤ length room.old }
-    ensures list { take result room.new ≡ filter (inner sizes.width sizes.height) elevators.now }
-    ensures within { result ≤ length elevators.now }
-{
-    let mut count = 0;
-    for elevator in elevators {
-        count = keep(room, count, *elevator, is_inner(sizes, *elevator));
-    }
-    count
-}
-
-// The elevators that routers may point at, listed in the room lent if not all are.
-fn offer<'a>(sizes: Sizes, elevators: &'a [Place], room: &'a mut [Place]) -> &'a [Place]
-    requires { length elevators.now ≤ length room.old }
-    ensures list { result.now ≡ offered sizes.width sizes.height elevators.now }
-    ensures few { length result.now ≤ length elevators.now }
-    ensures some { 0 < length elevators.now → 0 < length result.now }
-{
-    let count = list_inner(sizes, elevators, room);
-    if count > 0 {
-        return &room[0..count];
-    }
-    elevators
 }
 
 impl<C: Chooser> Filler<C> for InnerElevators {
@@ -68,18 +41,14 @@ impl<C: Chooser> Filler<C> for InnerElevators {
         TowardDestination { order: self.order }
     }
 
-    fn fill(
-        &self,
-        sizes: Sizes,
-        plane: u8,
-        way: Way,
-        elevators: &[Place],
-        chooser: &mut C,
-        bytes: &mut [u8],
-    ) {
-        let mut room = [Place { x: 0, y: 0 }; MOST];
-        let offered = offer(sizes, elevators, &mut room);
+    fn fill(&self, task: Task, chooser: &mut C, bytes: &mut [u8]) {
+        let inner = passing(task.elevators, |elevator| is_inner(task.sizes, elevator));
+        let elevators = if inner.is_empty() {
+            task.elevators
+        } else {
+            &inner
+        };
         let filler = RandomOffline { order: self.order };
-        filler.fill(sizes, plane, way, offered, chooser, bytes);
+        filler.fill(Task { elevators, ..task }, chooser, bytes);
     }
 }

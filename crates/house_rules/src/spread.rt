@@ -2,8 +2,8 @@
 ghost use Rattle.house_rules.specs.Spreading.{counted, spread};
 ghost use Rattle.std.proofs.Common.{rules};
 
-use mesh::{Place, Way};
-use routing::Chooser;
+use mesh::Place;
+use routing::{Chooser, Question};
 
 // How many questions were asked so far, modulo 2^16.
 #[derive(Clone, Copy)]
@@ -18,9 +18,10 @@ impl Chooser for Spread {
 
     ghost within = { Prim.search rules };
 
-    fn choose(&mut self, _plane: u8, _way: Way, router: Place, candidates: &[Place]) -> usize {
-        let turn = usize::from(self.count) + usize::from(router.x) + usize::from(router.y);
+    fn choose(&mut self, question: Question) -> usize {
+        let Place { x, y } = question.router;
+        let turn = usize::from(self.count) + usize::from(x) + usize::from(y);
         self.count = self.count.wrapping_add(1);
-        turn % candidates.len().max(1)
+        turn % question.candidates.len().max(1)
     }
 }

@@ -2,41 +2,26 @@
 // towards the packet's destination, or all of them where none does.
 ghost use Rattle.std.specs.Prelude.{◌≡◌, ◌*◌, replicate};
 ghost use Rattle.house_rules.specs.Guiding.{leaning, lawful_for, some_direction, toward_reply};
-ghost use Rattle.routing_laws.specs.Guides.{both};
 ghost use Rattle.house_rules.specs.Leaning.{toward_rules, none_needed};
 
-use mesh::{Direction, Directions, Place, Sizes, Trip, TurnOrder};
-use routing::{Guide, Pointing};
+use mesh::{Directions, TurnOrder};
+use routing::{Guide, Pointing, Request};
 
 #[derive(Clone, Copy)]
 pub struct TowardDestination {
     pub order: TurnOrder,
 }
 
-// The directions that two sets share.
-fn meet(first: Directions, second: Directions) -> Directions
-    ensures { result ≡ both first second }
-{
-    Directions {
-        north: first.north & second.north,
-        east: first.east & second.east,
-        south: first.south & second.south,
-        west: first.west & second.west,
-    }
-}
-
-fn is_some(set: Directions) -> bool
-    ensures { result ≡ some_direction set }
-{
-    set.north | set.east | set.south | set.west
-}
-
 // The ports that also lead ahead, or all where none does.
 fn lean(ports: Directions, ahead: Directions) -> Directions
     ensures { result ≡ leaning ports ahead }
 {
-    let shared = meet(ports, ahead);
-    if is_some(shared) { shared } else { ports }
+    let shared = ports & ahead;
+    if shared == Directions::NONE {
+        ports
+    } else {
+        shared
+    }
 }
 
 impl Guide for TowardDestination {
@@ -48,17 +33,9 @@ impl Guide for TowardDestination {
 
     ghost none = { λ g w h. none_needed g.order w h (replicate (w * h) 0) };
 
-    fn permits(
-        &self,
-        sizes: Sizes,
-        place: Place,
-        half: u8,
-        destination: Place,
-        side: Option<Direction>,
-        trip: Trip,
-    ) -> Directions {
-        let pointing = Pointing { order: self.order };
-        let ports = pointing.permits(sizes, place, half, destination, side, trip);
-        lean(ports, Directions::toward(place, destination))
+    fn permits(&self, request: Request) -> Directions {
+        let ports = Pointing { order: self.order }.permits(request);
+        let ahead = Directions::toward(request.place, request.destination);
+        lean(ports, ahead)
     }
 }

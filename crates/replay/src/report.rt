@@ -1,5 +1,5 @@
 // What a replay prints.
-use channel_laws::{Answer, Call, Ports, Record};
+use channel_laws::{Answer, Call, Done, Ports, Record};
 use description_laws::StackFault;
 use listing::{list_fault, list_plan};
 use mesh::{Refusal, Router, Sizes};
@@ -89,12 +89,9 @@ fn word(call: Call) -> &'static str {
 fn write_answer<W: Write>(out: &mut W, call: Call, answer: Answer) -> io::Result<()> {
     let word = word(call);
     match answer {
-        Answer::Injected | Answer::Moved => writeln!(out, "{word} ok"),
-        Answer::Collected(record) => {
-            let packet = Packet(record);
-            writeln!(out, "{word} ok {packet}")
-        }
-        Answer::Refused(refusal) => writeln!(out, "{word} {refusal}"),
+        Ok(Done::Injected | Done::Moved) => writeln!(out, "{word} ok"),
+        Ok(Done::Collected(record)) => writeln!(out, "{word} ok {}", Packet(record)),
+        Err(refusal) => writeln!(out, "{word} {refusal}"),
     }
 }
 

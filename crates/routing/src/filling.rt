@@ -1,13 +1,22 @@
 // Fillers: what writes one half of one plane.
-ghost use Rattle.std.specs.Prelude.{◌≡◌, ℕ, ◌*◌, ◌<◌, ◌≤◌, List, length};
-ghost use Rattle.std.specs.List.{ContainsAt as Has, AllByRecursion};
+ghost use Rattle.std.specs.Prelude.{◌≡◌, ℕ, ◌*◌, ◌<◌, ◌≤◌, List, length, All, Contains};
 ghost use Rattle.mesh.specs.declared.grid.Place.{Place};
 ghost use Rattle.mesh.specs.Layout.{Inside};
-ghost use Rattle.routing_laws.specs.Filling.{Task, put_halves, task};
+ghost use Rattle.routing_laws.specs.Filling.{Task, put_halves};
+ghost use Rattle.routing.specs.Telling.{task_of};
 
 use crate::choosing::Chooser;
 use crate::guiding::Guide;
 use mesh::{Place, Sizes, Way};
+
+// One half of one plane: what a filler is told.
+#[derive(Clone, Copy)]
+pub struct Task<'a> {
+    pub sizes: Sizes,
+    pub plane: u8,
+    pub way: Way,
+    pub elevators: &'a [Place],
+}
 
 // A filler's meaning is the half that it writes and the chooser's next state, both functions of what it is told
 // and of the chooser's state. A guide comes from its filler, so that no plan is read by a guide it was not made for. Only the planner calls `fill`: it always has an elevator to offer, never more
@@ -25,24 +34,16 @@ pub trait Filler<C: Chooser> {
     fn guide(&self) -> Self::Guide
         ensures { result ≡ partner self.now };
 
-    fn fill(
-        &self,
-        sizes: Sizes,
-        plane: u8,
-        way: Way,
-        elevators: &[Place],
-        chooser: &mut C,
-        bytes: &mut [u8],
-    )
-        requires some { 0 < length elevators.now }
-        requires few { length elevators.now ≤ sizes.width * sizes.height }
-        requires whole { length bytes.old ≡ sizes.width * sizes.height }
-        ensures writes { bytes.new ≡ put_halves way bytes.old (half self.now (task sizes plane way elevators.now) chooser.old) }
-        ensures goes { chooser.new ≡ next self.now (task sizes plane way elevators.now) chooser.old };
+    fn fill(&self, task: Task, chooser: &mut C, bytes: &mut [u8])
+        requires some { 0 < length task.elevators.now }
+        requires few { length task.elevators.now ≤ task.sizes.width * task.sizes.height }
+        requires whole { length bytes.old ≡ task.sizes.width * task.sizes.height }
+        ensures writes { bytes.new ≡ put_halves task.entry.way bytes.old (half self.now (task_of task.entry) chooser.old) }
+        ensures goes { chooser.new ≡ next self.now (task_of task.entry) chooser.old };
 
     ghost long: { (f : Self) (t : Task) (c : C) → length (half f t c) ≡ t.width * t.height };
 
-    ghost small: { (f : Self) (t : Task) (c : C) → AllByRecursion (λ v. v < 16) (half f t c) };
+    ghost small: { (f : Self) (t : Task) (c : C) → All (λ v. v < 16) (half f t c) };
 
-    ghost lawful: { (f : Self) (t : Task) (c : C) → 0 < t.width → 0 < t.height → 0 < length t.elevators → ((e : Place) → Has t.elevators e → Inside t.width t.height e) → Self.Guide.Guide.lawful (partner f) t.width t.height t.elevators (half f t c) };
+    ghost lawful: { (f : Self) (t : Task) (c : C) → 0 < t.width → 0 < t.height → 0 < length t.elevators → ((e : Place) → Contains t.elevators e → Inside t.width t.height e) → Self.Guide.Guide.lawful (partner f) t.width t.height t.elevators (half f t c) };
 }

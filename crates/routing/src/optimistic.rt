@@ -1,13 +1,13 @@
 // The optimistic scheme: every router is told in which directions elevators lie, and nobody is asked.
 ghost use Rattle.std.specs.Prelude.{◌≡◌, ℕ, ◌*◌, ◌<◌, ◌≤◌, length};
 ghost use Rattle.routing_laws.specs.Filling.{put_halves};
-ghost use Rattle.routing_laws.specs.Optimistic.{compass, joined, open_half, sighted};
+ghost use Rattle.routing_laws.specs.Optimistic.{compass, open_half, sighted};
 ghost use Rattle.routing_laws.proofs.Compass.{open_long, open_small};
 ghost use Rattle.routing_laws.proofs.Seeking.{open_lawful};
 
 use crate::choosing::Chooser;
-use crate::filling::Filler;
-use mesh::{Directions, Place, Sizes, Way};
+use crate::filling::{Filler, Task};
+use mesh::{Directions, Place};
 
 #[derive(Clone, Copy)]
 pub struct Optimistic;
@@ -16,27 +16,15 @@ pub struct Optimistic;
 fn sight(place: Place, elevator: Place) -> Directions
     ensures { result ≡ sighted place elevator }
 {
-    let way = Directions::toward(place, elevator);
+    let ahead = Directions::toward(place, elevator);
     if elevator.x == place.x {
-        way
+        ahead
     } else {
         Directions {
             north: false,
-            east: way.east,
             south: false,
-            west: way.west,
+            ..ahead
         }
-    }
-}
-
-fn join(first: Directions, second: Directions) -> Directions
-    ensures { result ≡ joined first second }
-{
-    Directions {
-        north: first.north | second.north,
-        east: first.east | second.east,
-        south: first.south | second.south,
-        west: first.west | second.west,
     }
 }
 
@@ -44,26 +32,21 @@ fn join(first: Directions, second: Directions) -> Directions
 fn look(place: Place, elevators: &[Place]) -> Directions
     ensures { result ≡ compass elevators.now place }
 {
-    let mut seen = Directions {
-        north: false,
-        east: false,
-        south: false,
-        west: false,
-    };
+    let mut seen = Directions::NONE;
     for elevator in elevators {
-        seen = join(seen, sight(place, *elevator));
+        seen = seen | sight(place, *elevator);
     }
     seen
 }
 
 // One half of a plane: each router is told where elevators lie.
-fn look_around(sizes: Sizes, way: Way, elevators: &[Place], bytes: &mut [u8])
-    requires { length bytes.old ≡ sizes.width * sizes.height }
-    ensures { bytes.new ≡ put_halves way bytes.old (open_half sizes.width sizes.height elevators.now) }
+fn look_around(task: Task, bytes: &mut [u8])
+    requires { length bytes.old ≡ task.sizes.width * task.sizes.height }
+    ensures { bytes.new ≡ put_halves task.entry.way bytes.old (open_half task.entry.sizes.width task.entry.sizes.height task.entry.elevators.now) }
 {
     for (i, byte) in bytes.iter_mut().enumerate() {
-        let seen = look(sizes.place_at(i), elevators);
-        *byte = way.with_half(*byte, seen.pack());
+        let seen = look(task.sizes.place_at(i), task.elevators);
+        *byte = task.way.with_half(*byte, seen.pack());
     }
 }
 
@@ -86,15 +69,7 @@ impl<C: Chooser> Filler<C> for Optimistic {
         *self
     }
 
-    fn fill(
-        &self,
-        sizes: Sizes,
-        plane: u8,
-        way: Way,
-        elevators: &[Place],
-        chooser: &mut C,
-        bytes: &mut [u8],
-    ) {
-        look_around(sizes, way, elevators, bytes);
+    fn fill(&self, task: Task, chooser: &mut C, bytes: &mut [u8]) {
+        look_around(task, bytes);
     }
 }

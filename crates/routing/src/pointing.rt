@@ -2,12 +2,11 @@
 // and a turn order permits.
 ghost use Rattle.routing_laws.specs.Guides.{needed, pointing_lawful, pointing_reply};
 ghost use Rattle.std.specs.Prelude.{◌≡◌, ◌*◌, replicate};
-ghost use Rattle.routing_laws.specs.Chains.{tell};
 ghost use Rattle.routing_laws.proofs.Pointing.{pointing_rules};
 ghost use Rattle.routing_laws.proofs.Lawful.{none_lawful};
 
-use crate::guiding::Guide;
-use mesh::{Direction, Directions, Place, Sizes, Trip, TurnOrder};
+use crate::guiding::{Guide, Request};
+use mesh::{Directions, Trip, TurnOrder};
 
 #[derive(Clone, Copy)]
 pub struct Pointing {
@@ -23,18 +22,11 @@ impl Guide for Pointing {
 
     ghost none = { λ g w h. none_lawful g.order w h (replicate (w * h) 0) };
 
-    fn permits(
-        &self,
-        sizes: Sizes,
-        place: Place,
-        half: u8,
-        destination: Place,
-        side: Option<Direction>,
-        trip: Trip,
-    ) -> Directions {
-        match trip {
-            Trip::Seeking => self.order.permits(Directions::unpack(half)),
-            Trip::Bound => self.order.permits(Directions::toward(place, destination)),
-        }
+    fn permits(&self, request: Request) -> Directions {
+        let needed = match request.trip {
+            Trip::Seeking => Directions::unpack(request.half),
+            Trip::Bound => Directions::toward(request.place, request.destination),
+        };
+        self.order.permits(needed)
     }
 }

@@ -1,25 +1,25 @@
-// Lists of places in room that the caller lends: no filler needs the heap.
-ghost use Rattle.std.specs.Prelude.{◌≡◌, ◌+◌, ◌<◌, ◌≤◌, ◌&&◌, [], ◌∷◌, ◌++◌, length, take, if◌then◌else◌, nat_lt, slice_set};
+// Lists of places in room of their own: no filler needs the heap.
+ghost use Rattle.std.specs.Prelude.{◌≡◌, Bool, take, filter};
+ghost use Rattle.mesh.specs.declared.grid.Place.{Place};
 
+use arrayvec::ArrayVec;
 use mesh::Place;
 
 // The most routers that a plane has, and so the most elevators.
 pub const MOST: usize = 576;
 
-// Puts a place behind the `count` kept so far if it passes and there is room, and replies with the new count.
-pub fn keep(room: &mut [Place], count: usize, place: Place, passes: bool) -> usize
-    ensures counts { result ≡ (if passes && nat_lt count (length room.old) then count + 1 else count) }
-    ensures after { room.new ≡ (if passes then slice_set room.old count place else room.old) }
-    ensures bound { result ≤ count + 1 }
-    ensures kept { count < length room.old → take result room.new ≡ take count room.old ++ (if passes then place ∷ [] else []) }
+pub type Places = ArrayVec<Place, MOST>;
+
+// The places that pass a test, in their order: all that there are, up to `MOST`.
+pub fn passing<F: Fn(Place) -> bool>(places: &[Place], passes: F) -> Places
+    requires { F.IsAlwaysCallable passes }
+    ensures { (test : Place → Bool) → ((p : Place) (b : Bool) → F.post passes p b → b ≡ test p) → result.items ≡ take 576 (filter test places.now) }
 {
-    if !passes {
-        return count;
+    let mut list = Places::new();
+    for place in places {
+        if passes(*place) && !list.is_full() {
+            list.push(*place);
+        }
     }
-    if count < room.len() {
-        room[count] = place;
-        count + 1
-    } else {
-        count
-    }
+    list
 }

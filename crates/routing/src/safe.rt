@@ -6,9 +6,9 @@ ghost use Rattle.routing_laws.proofs.Safe.{safe_long, safe_small};
 ghost use Rattle.routing_laws.proofs.Lawful.{safe_lawful};
 
 use crate::choosing::Chooser;
-use crate::filling::Filler;
+use crate::filling::{Filler, Task};
 use crate::pointing::Pointing;
-use mesh::{Directions, Place, Sizes, TurnOrder, Way};
+use mesh::{Directions, Place, TurnOrder};
 
 // It serves packets under any turn order, and keeps the one it was planned for.
 #[derive(Clone, Copy)]
@@ -41,15 +41,15 @@ pub(crate) fn pointing(place: Place, elevator: Place) -> u8
 }
 
 // One half of a plane: each router points at its last nearest elevator.
-fn point(sizes: Sizes, way: Way, elevators: &[Place], bytes: &mut [u8])
-    requires some { 0 < length elevators.now }
-    requires whole { length bytes.old ≡ sizes.width * sizes.height }
-    ensures { bytes.new ≡ put_halves way bytes.old (safe_half sizes.width sizes.height elevators.now) }
+fn point(task: Task, bytes: &mut [u8])
+    requires some { 0 < length task.elevators.now }
+    requires whole { length bytes.old ≡ task.sizes.width * task.sizes.height }
+    ensures { bytes.new ≡ put_halves task.entry.way bytes.old (safe_half task.entry.sizes.width task.entry.sizes.height task.entry.elevators.now) }
 {
     for (i, byte) in bytes.iter_mut().enumerate() {
-        let place = sizes.place_at(i);
-        let target = elevators[last_nearest(place, elevators)];
-        *byte = way.with_half(*byte, pointing(place, target));
+        let place = task.sizes.place_at(i);
+        let target = task.elevators[last_nearest(place, task.elevators)];
+        *byte = task.way.with_half(*byte, pointing(place, target));
     }
 }
 
@@ -72,15 +72,7 @@ impl<C: Chooser> Filler<C> for MdSafe {
         Pointing { order: self.order }
     }
 
-    fn fill(
-        &self,
-        sizes: Sizes,
-        plane: u8,
-        way: Way,
-        elevators: &[Place],
-        chooser: &mut C,
-        bytes: &mut [u8],
-    ) {
-        point(sizes, way, elevators, bytes);
+    fn fill(&self, task: Task, chooser: &mut C, bytes: &mut [u8]) {
+        point(task, bytes);
     }
 }

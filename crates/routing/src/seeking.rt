@@ -1,52 +1,18 @@
 // The optimistic scheme as a guide: XY when bound. A seeker is permitted one port, and goes on in its direction until
 // an elevator lies in its column.
 ghost use Rattle.std.specs.Prelude.{◌≡◌, ◌*◌, replicate};
-ghost use Rattle.routing_laws.specs.Guides.{both, only, optimistic_lawful, optimistic_reply, seek};
+ghost use Rattle.routing_laws.specs.Guides.{optimistic_lawful, optimistic_reply, seek};
 ghost use Rattle.routing_laws.proofs.Seeking.{optimistic_rules, zero_lawful};
 
-use crate::guiding::Guide;
+use crate::guiding::{Guide, Request};
 use crate::optimistic::Optimistic;
-use mesh::{Direction, Directions, Place, Sizes, Trip, TurnOrder};
-
-fn meet(half: Directions, destination: Directions) -> Directions
-    ensures { result ≡ both half destination }
-{
-    Directions {
-        north: half.north & destination.north,
-        east: half.east & destination.east,
-        south: half.south & destination.south,
-        west: half.west & destination.west,
-    }
-}
-
-fn alone(direction: Direction) -> Directions
-    ensures { result ≡ only direction }
-{
-    let none = Directions {
-        north: false,
-        east: false,
-        south: false,
-        west: false,
-    };
-    match direction {
-        Direction::North => Directions {
-            north: true,
-            ..none
-        },
-        Direction::East => Directions { east: true, ..none },
-        Direction::South => Directions {
-            south: true,
-            ..none
-        },
-        Direction::West => Directions { west: true, ..none },
-    }
-}
+use mesh::{Direction, Directions, Trip, TurnOrder};
 
 // The one port of a seeker, by the side on which it came in: the first that applies.
 fn port(half: Directions, destination: Directions, side: Option<Direction>) -> Direction
     ensures { result ≡ seek half destination side }
 {
-    let shared = meet(half, destination);
+    let shared = half & destination;
     match side {
         Some(Direction::East) if shared.west => Direction::West,
         Some(Direction::West) if shared.east => Direction::East,
@@ -78,18 +44,14 @@ impl Guide for Optimistic {
 
     ghost none = { λ g w h. zero_lawful w h (replicate (w * h) 0) };
 
-    fn permits(
-        &self,
-        sizes: Sizes,
-        place: Place,
-        half: u8,
-        destination: Place,
-        side: Option<Direction>,
-        trip: Trip,
-    ) -> Directions {
-        let ahead = Directions::toward(place, destination);
-        match trip {
-            Trip::Seeking => alone(port(Directions::unpack(half), ahead, side)),
+    fn permits(&self, request: Request) -> Directions {
+        let ahead = Directions::toward(request.place, request.destination);
+        match request.trip {
+            Trip::Seeking => Directions::only(port(
+                Directions::unpack(request.half),
+                ahead,
+                request.side,
+            )),
             Trip::Bound => TurnOrder::xy().permits(ahead),
         }
     }

@@ -4,17 +4,19 @@ ghost use Rattle.std.specs.Prelude.{◌≡◌, ℕ, ◌+◌, ◌*◌, ◌<◌, �
 ghost use Rattle.mesh.specs.Compass.{distance, toward};
 ghost use Rattle.mesh.specs.Layout.{place_at};
 ghost use Rattle.mesh.specs.Orders.{lowest};
-ghost use Rattle.routing_laws.specs.Filling.{put_halves, task};
+ghost use Rattle.routing_laws.specs.Filling.{put_halves};
+ghost use Rattle.arrayvec.specs.ArrayVec.{array_vec_len};
+ghost use Rattle.routing.specs.Telling.{task_of};
 ghost use Rattle.routing_laws.specs.Ties.{candidate, candidates, least, onward, target, tie_half, tie_next};
 ghost use Rattle.routing_laws.proofs.Ties.{tie_long, tie_small};
 ghost use Rattle.routing_laws.proofs.Lawful.{tie_lawful};
 
-use crate::choosing::Chooser;
-use crate::filling::Filler;
+use crate::choosing::{Chooser, Question};
+use crate::filling::{Filler, Task};
 use crate::pointing::Pointing;
-use crate::rooms::{MOST, keep};
+use crate::rooms::{Places, passing};
 use crate::safe::pointing;
-use mesh::{Directions, Place, Sizes, TurnOrder, Way};
+use mesh::{Directions, LAST_SET, Place, TurnOrder};
 
 #[derive(Clone, Copy)]
 pub struct RandomOffline {
@@ -33,102 +35,57 @@ fn least_distance(place: Place, elevators: &[Place]) -> u16
     least
 }
 
-// Whether an elevator is at distance `least` and, where that is asked, needs only directions of the last set.
-fn is_candidate(order: TurnOrder, place: Place, elevator: Place, least: u16, late: bool) -> bool
-    ensures { result ≡ candidate order place least late elevator }
-{
-    let near = place.distance(elevator) == least;
-    if late {
-        near && order.lowest(Directions::toward(place, elevator)) >= 1
-    } else {
-        near
-    }
-}
-
-// Lists the elevators that pass, and replies with their number.
-fn list_nearest(
-    order: TurnOrder,
-    place: Place,
-    elevators: &[Place],
-    least: u16,
-    late: bool,
-    room: &mut [Place],
-) -> usize
-    requires { length elevators.now ≤ length room.old }
-    ensures list { take result room.new ≡ filter (candidate order place least late) elevators.now }
-    ensures within { result ≤ length elevators.now }
-{
-    let mut count = 0;
-    for elevator in elevators {
-        count = keep(
-            room,
-            count,
-            *elevator,
-            is_candidate(order, place, *elevator, least, late),
-        );
-    }
-    count
-}
-
-// Lists the candidates of a router, and replies with their number.
-fn list_candidates(order: TurnOrder, place: Place, elevators: &[Place], room: &mut [Place]) -> usize
+// The candidates of a router: its nearest elevators, and of these only those that need directions of the last set alone
+// where there are any.
+fn candidates(order: TurnOrder, place: Place, elevators: &[Place]) -> Places
     requires some { 0 < length elevators.now }
-    requires room { length elevators.now ≤ length room.old }
-    ensures list { take result room.new ≡ candidates order place elevators.now }
-    ensures some { 0 < result }
-    ensures within { result ≤ length elevators.now }
+    requires few { length elevators.now ≤ 576 }
+    ensures list { result.items ≡ candidates order place elevators.now }
+    ensures some { 0 < array_vec_len result }
 {
     let least = least_distance(place, elevators);
-    let count = list_nearest(order, place, elevators, least, true, room);
-    if count > 0 {
-        return count;
+    let late = passing(elevators, |elevator| {
+        place.distance(elevator) == least
+            && order.lowest(Directions::toward(place, elevator)) >= LAST_SET
+    });
+    if !late.is_empty() {
+        return late;
     }
-    list_nearest(order, place, elevators, least, false, room)
+    passing(elevators, |elevator| place.distance(elevator) == least)
 }
 
 // The elevator that a router points at: the chooser is asked only where two or more candidates remain.
-fn settle<C: Chooser>(
-    order: TurnOrder,
-    plane: u8,
-    way: Way,
-    place: Place,
-    elevators: &[Place],
-    chooser: &mut C,
-) -> Place
-    requires some { 0 < length elevators.now }
-    requires few { length elevators.now ≤ 576 }
-    ensures settles { result ≡ target C.position C.after order plane way elevators.now place chooser.old }
-    ensures goes { chooser.new ≡ onward C.position C.after order plane way elevators.now place chooser.old }
+fn settle<C: Chooser>(order: TurnOrder, task: Task, place: Place, chooser: &mut C) -> Place
+    requires some { 0 < length task.elevators.now }
+    requires few { length task.elevators.now ≤ 576 }
+    ensures settles { result ≡ target C.position C.after order task.entry.plane task.entry.way task.entry.elevators.now place chooser.old }
+    ensures goes { chooser.new ≡ onward C.position C.after order task.entry.plane task.entry.way task.entry.elevators.now place chooser.old }
 {
-    let mut room = [Place { x: 0, y: 0 }; MOST];
-    let count = list_candidates(order, place, elevators, &mut room);
-    if count < 2 {
-        return room[0];
+    let candidates = candidates(order, place, task.elevators);
+    if candidates.len() < 2 {
+        return candidates[0];
     }
-    let list = &room[0..count];
-    list[chooser.choose(plane, way, place, list)]
+    let question = Question {
+        plane: task.plane,
+        way: task.way,
+        router: place,
+        candidates: &candidates,
+    };
+    candidates[chooser.choose(question)]
 }
 
 // One half of a plane, router by router.
-fn settle_all<C: Chooser>(
-    order: TurnOrder,
-    sizes: Sizes,
-    plane: u8,
-    way: Way,
-    elevators: &[Place],
-    chooser: &mut C,
-    bytes: &mut [u8],
-)
-    requires some { 0 < length elevators.now }
-    requires few { length elevators.now ≤ 576 }
-    requires whole { length bytes.old ≡ sizes.width * sizes.height }
-    ensures writes { bytes.new ≡ put_halves way bytes.old (tie_half C.position C.after order (task sizes plane way elevators.now) chooser.old) }
-    ensures goes { chooser.new ≡ tie_next C.position C.after order (task sizes plane way elevators.now) chooser.old }
+fn settle_all<C: Chooser>(order: TurnOrder, task: Task, chooser: &mut C, bytes: &mut [u8])
+    requires some { 0 < length task.elevators.now }
+    requires few { length task.elevators.now ≤ 576 }
+    requires whole { length bytes.old ≡ task.sizes.width * task.sizes.height }
+    ensures writes { bytes.new ≡ put_halves task.entry.way bytes.old (tie_half C.position C.after order (task_of task.entry) chooser.old) }
+    ensures goes { chooser.new ≡ tie_next C.position C.after order (task_of task.entry) chooser.old }
 {
     for (i, byte) in bytes.iter_mut().enumerate() {
-        let place = sizes.place_at(i);
-        let elevator = settle(order, plane, way, place, elevators, chooser);
-        *byte = way.with_half(*byte, pointing(place, elevator));
+        let place = task.sizes.place_at(i);
+        let elevator = settle(order, task, place, chooser);
+        *byte = task.way.with_half(*byte, pointing(place, elevator));
     }
 }
 
@@ -151,15 +108,7 @@ impl<C: Chooser> Filler<C> for RandomOffline {
         Pointing { order: self.order }
     }
 
-    fn fill(
-        &self,
-        sizes: Sizes,
-        plane: u8,
-        way: Way,
-        elevators: &[Place],
-        chooser: &mut C,
-        bytes: &mut [u8],
-    ) {
-        settle_all(self.order, sizes, plane, way, elevators, chooser, bytes);
+    fn fill(&self, task: Task, chooser: &mut C, bytes: &mut [u8]) {
+        settle_all(self.order, task, chooser, bytes);
     }
 }

@@ -1,23 +1,24 @@
 -- The compass of a place: each direction exactly where such an elevator exists.
-use Rattle.std.proofs.Common.{◌≡◌, ℕ, ◌+◌, ◌*◌, ◌<◌, Bool, true, false, ◌&&◌, ◌||◌, eqb, ltb, List, [], ◌∷◌, ◌++◌, length, get_or, take, Decides, sym, refl, ap, ◌∙◌, subst}
-use Rattle.std.specs.List.{HoldsAt, ContainsAt as Has, AllByRecursion}
-use Rattle.std.proofs.ByRecursion.{has_get_or}
-use Rattle.std.proofs.lemmas.List.{take_more}
+use Rattle.std.proofs.Common.{◌≡◌, ℕ, ◌+◌, ◌*◌, ◌<◌, Bool, ◌&&◌, eqb, ltb, List, length, get_or, take, Decides, sym, refl, subst, Contains, All}
+use Rattle.std.specs.List.{HoldsAt, list_any}
+use Rattle.std.proofs.lemmas.List.Elements.{Contains-get_or, at_from_Contains}
+use Rattle.std.proofs.lemmas.List.Folds.{list_any_more}
 use Rattle.std.proofs.lemmas.Bool.Decides.{Decides-and, Decides-by_or, Decides-eqb, Decides-like, Decides-ltb}
 use Rattle.mesh.specs.declared.grid.Place.{Place}
+use Rattle.mesh.specs.Compass.{joined}
 use Rattle.mesh.specs.Halves.{pack}
 use Rattle.mesh.proofs.Masks.{pack_small}
 use Rattle.routing_laws.specs.Elevators.{origin}
-use Rattle.routing_laws.specs.Optimistic.{Compass, any, compass, joined, open_half, sighted}
+use Rattle.routing_laws.specs.Optimistic.{Compass, compass, open_half, sighted}
 use Rattle.routing_laws.proofs.Safe.{places_long, places_small}
 
 -- some place passes a test exactly where one exists
-any_decides : (test : Place → Bool) (P : Place → Type 0) → ((e : Place) → Decides (test e) (P e)) → (es : List Place) → Decides (any test es) ((e : Place) × Has es e × P e)
+any_decides : (test : Place → Bool) (P : Place → Type 0) → ((e : Place) → Decides (test e) (P e)) → (es : List Place) → Decides (list_any test es) ((e : Place) × Contains es e × P e)
 any_decides test P each es =
-    Decides-like (any test es)
-    (λ (w : (k : ℕ) × (k < length es) × HoldsAt P es k). (get_or es w.0 origin, has_get_or es w.0 origin w.1, w.2 origin))
-    (λ (w : (e : Place) × Has es e × P e). (w.1.0, w.1.1, λ d. subst P (sym (w.1.2 d)) w.2))
-    (Decides-by_or test P (any test) each refl (λ _ _. refl) es)
+    Decides-like (list_any test es)
+    (λ (w : (k : ℕ) × (k < length es) × HoldsAt P es k). (get_or es w.0 origin, Contains-get_or es w.0 origin w.1, w.2 origin))
+    (λ (w : (e : Place) × Contains es e × P e). let at = at_from_Contains es w.0 w.1 in (at.0, at.1, λ d. subst P (sym (at.2 d)) w.2))
+    (Decides-by_or test P (list_any test) each refl (λ _ _. refl) es)
 
 pub compass_is : (es : List Place) (p : Place) → Compass es p (compass es p)
 compass_is es p = record {
@@ -27,32 +28,17 @@ compass_is es p = record {
   west_is = any_decides (λ e. ltb e.x p.x) (λ e. e.x < p.x) (λ e. Decides-ltb e.x p.x) es;
 }
 
-or_assoc : (a b c : Bool) → ((a || b) || c) ≡ (a || (b || c))
-or_assoc true b c = refl
-or_assoc false b c = refl
-
-or_false : (a : Bool) → (a || false) ≡ a
-or_false true = refl
-or_false false = refl
-
-any_push : (test : Place → Bool) (es : List Place) (e : Place) → any test (es ++ e ∷ []) ≡ (any test es || test e)
-any_push test [] e = or_false (test e)
-any_push test (x ∷ es) e = ap (λ b. test x || b) (any_push test es e) ∙ sym (or_assoc (test x) (any test es) (test e))
-
-any_more : (test : Place → Bool) (es : List Place) (i : ℕ) → i < length es → any test (take (i + 1) es) ≡ (any test (take i es) || test (get_or es i origin))
-any_more test es i l = ap (any test) (take_more es i origin l) ∙ any_push test (take i es) (get_or es i origin)
-
 -- a loop that looks at one elevator after the other
 pub compass_more : (es : List Place) (p : Place) (i : ℕ) → i < length es → compass (take (i + 1) es) p ≡ joined (compass (take i es) p) (sighted p (get_or es i origin))
 compass_more es p i l = λ k. record {
-  north = any_more (λ e. eqb e.x p.x && ltb p.y e.y) es i l k;
-  east = any_more (λ e. ltb p.x e.x) es i l k;
-  south = any_more (λ e. eqb e.x p.x && ltb e.y p.y) es i l k;
-  west = any_more (λ e. ltb e.x p.x) es i l k;
+  north = list_any_more (λ e. eqb e.x p.x && ltb p.y e.y) es i origin l k;
+  east = list_any_more (λ e. ltb p.x e.x) es i origin l k;
+  south = list_any_more (λ e. eqb e.x p.x && ltb e.y p.y) es i origin l k;
+  west = list_any_more (λ e. ltb e.x p.x) es i origin l k;
 }
 
 pub open_long : (w h : ℕ) (es : List Place) → length (open_half w h es) ≡ w * h
 open_long w h es = places_long (λ p. pack (compass es p)) w h
 
-pub open_small : (w h : ℕ) (es : List Place) → AllByRecursion (λ v. v < 16) (open_half w h es)
+pub open_small : (w h : ℕ) (es : List Place) → All (λ v. v < 16) (open_half w h es)
 open_small w h es = places_small (λ p. pack (compass es p)) w h (λ p. pack_small (compass es p))

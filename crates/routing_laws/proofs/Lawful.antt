@@ -1,9 +1,8 @@
 -- MD-safe and random-offline fill a plane lawfully for the pointing guide, under every turn order.
-use Rattle.std.proofs.Common.{◌≡◌, ℕ, zero, suc, ◌*◌, ◌<◌, ◌≤◌, true, cond, List, [], ◌∷◌, length, get_or, take, sym, refl, ap, ◌∙◌, subst, subst₂, ⊎_elim, arith}
-use Rattle.std.specs.List.{ContainsAt as Has}
+use Rattle.std.proofs.Common.{◌≡◌, ℕ, zero, suc, ◌*◌, ◌<◌, ◌≤◌, true, cond, List, [], ◌∷◌, length, get_or, take, sym, refl, ap, ◌∙◌, subst, subst₂, ⊎_elim, arith, Contains}
 use Rattle.std.proofs.lemmas.List.FromFn.{length-map-range_with_len}
-use Rattle.std.proofs.ByRecursion.{has_get_or}
-use Rattle.std.proofs.lemmas.List.{get_or-map}
+use Rattle.std.proofs.lemmas.List.Elements.{Contains-get_or}
+use Rattle.std.proofs.lemmas.List.{get_or-map, get_or_default}
 use Rattle.std.proofs.lemmas.Bool.{cases_lt, cond_both, le-leb, leb-true, ltb-true}
 use Rattle.mesh.specs.declared.compass.Direction.{Direction}
 use Rattle.mesh.specs.declared.compass.Way.{Way}
@@ -58,8 +57,8 @@ module _ (es : List Place) where
 pub safe_lawful : (o : TurnOrder) (w h : ℕ) (es : List Place) → 0 < w → 0 < h → pointing_lawful o w h es (safe_half w h es)
 safe_lawful o w h es some_columns some_rows some = record {
   target = λ p. last_nearest p es;
-  listed = λ p _. let found = last_nearest_found {es = es} {p = p} some in subst (Has es) found.2 (has_get_or es found.0 origin found.1.listed);
-  nearest = λ p e _ g. let found = last_nearest_found {es = es} {p = p} some in subst₂ (λ a b. distance p a ≤ distance p b) found.2 (g.2 origin) (found.1.nearest g.0 g.1);
+  listed = λ p _. let found = last_nearest_found {es = es} {p = p} some in subst (Contains es) found.2 (Contains-get_or es found.0 origin found.1.listed);
+  nearest = λ p e _ g. let found = last_nearest_found {es = es} {p = p} some in subst₂ (λ a b. distance p a ≤ distance p b) found.2 (get_or_default es g.0 origin e g.1 ∙ g.2) (found.1.nearest g.0 g.1);
   points = λ p i.
       get_or-map point (places w h) (cell w h 0 p) origin 0 (omega (arith, cell_below w h some_columns some_rows p i, length-map-range_with_len (place_at w h) 0 (w * h)))
       ∙ ap point (place_here w h some_columns some_rows p i);
@@ -86,16 +85,16 @@ late_stays o p q e n late d t = late d (shrinks n d t)
 
 module _ {C : Type 0} (position : C → Asked → ℕ) (after : C → Asked → C) (answers : (c : C) (q : Asked) → 2 ≤ length q.candidates → position c q < length q.candidates) (o : TurnOrder) where
   -- a router points at one of its candidates
-  chosen : (z : ℕ) (way : Way) (es : List Place) → 0 < length es → (p : Place) (c : C) → Has (candidates o p es) (target position after o z way es p c)
+  chosen : (z : ℕ) (way : Way) (es : List Place) → 0 < length es → (p : Place) (c : C) → Contains (candidates o p es) (target position after o z way es p c)
   chosen z way es some p c =
       let cs = candidates o p es in
-      has_get_or cs (cond (asks cs) (position c (question position after o z way es p)) 0) origin
+      Contains-get_or cs (cond (asks cs) (position c (question position after o z way es p)) 0) origin
       (cond_both (asks cs) (position c (question position after o z way es p)) 0 (λ n. n < length cs)
       (λ t. answers c (question position after o z way es p) (omega (arith, ltb-true 1 (length cs) t)))
       (λ _. (exact o p es some).some))
 
   -- after a step towards a candidate that needs only set 1, every candidate needs only that
-  candidates_keep : (es : List Place) → 0 < length es → (p q e f : Place) (d : Direction) → Has (candidates o p es) e → Has (candidates o q es) f
+  candidates_keep : (es : List Place) → 0 < length es → (p q e f : Place) (d : Direction) → Contains (candidates o p es) e → Contains (candidates o q es) f
       → allows o (toward p e) d ≡ true → Next d p q → lowest o (toward p e) ≤ lowest o (toward q f)
   candidates_keep es some p q e f d g k t step =
       let parts = allowed_parts o (toward p e) d t in
@@ -119,7 +118,7 @@ module _ {C : Type 0} (position : C → Asked → ℕ) (after : C → Asked → 
       let goal : Place → C → Place = target position after o t.plane t.way es in
       let step : Place → C → C = onward position after o t.plane t.way es in
       let state : Place → C = λ p. ending step (take (cell w h 0 p) (places w h)) c in
-      let pick : (p : Place) → Has (candidates o p es) (goal p (state p)) = λ p. chosen t.plane t.way es some p (state p) in
+      let pick : (p : Place) → Contains (candidates o p es) (goal p (state p)) = λ p. chosen t.plane t.way es some p (state p) in
       record {
         target = λ p. goal p (state p);
         listed = λ p _. ((exact o p es some).nearest (goal p (state p)) (pick p)).0;

@@ -1,10 +1,9 @@
 -- Planning gap by gap: what the bytes hold after each gap, and at the end.
-use Rattle.std.proofs.Common.{◌≡◌, ℕ, zero, suc, ◌+◌, ◌*◌, ◌/◌, ◌%◌, ◌<◌, ◌≤◌, cond, ltb, List, ◌++◌, map, length, get_or, drop, replicate, sym, refl, ap, ◌∙◌, ⊎_elim, add-one, arith, length-append, length-drop}
+use Rattle.std.proofs.Common.{◌≡◌, ℕ, zero, suc, ◌+◌, ◌*◌, ◌/◌, ◌%◌, ◌<◌, ◌≤◌, cond, ltb, List, ◌++◌, map, length, get_or, drop, replicate, sym, refl, ap, ◌∙◌, ⊎_elim, add-one, arith, length-append, length-drop, All}
 use lib.ListN.{length-map, length-replicate}
-use Rattle.std.specs.List.{AllByRecursion}
 use Rattle.std.proofs.lemmas.Nat.{div-add-mod', div_below, div-mul-add, mod_below, mod-mul-add}
 use Rattle.std.proofs.lemmas.List.FromFn.{fill_by_all, get_or-map-range_with_len, length-map-range_with_len}
-use Rattle.std.proofs.ByRecursion.{All-get_or}
+use Rattle.std.proofs.lemmas.List.Elements.{All-get_or}
 use Rattle.std.proofs.lemmas.List.{ext_get_or, get_or_append_left, get_or-drop, get_or-map, get_or_past, get_or-replicate, get_or-take, length-take-le}
 use Rattle.std.proofs.lemmas.Bool.{cases_eq, cases_lt, cond_both, cond-false, cond-true, le-ltb, lt-ltb}
 use Rattle.std.proofs.lemmas.Bool.Decides.{nat_tests}
@@ -58,7 +57,7 @@ module _ (up down : ℕ → ℕ → ℕ) where
 -- the laws of a filler that planning needs
 pub record Fitting {C : Type 0} (j : Job C) : Type 0 where
   pub long : (t : Task) (c : C) → length (j.half t c) ≡ t.width * t.height
-  pub small : (t : Task) (c : C) → AllByRecursion (λ v. v < 16) (j.half t c)
+  pub small : (t : Task) (c : C) → All (λ v. v < 16) (j.half t c)
 
 -- the bytes with n gaps planned
 pub record Holds {C : Type 0} (j : Job C) (c : C) (n : ℕ) (bytes : List ℕ) : Type 0 where

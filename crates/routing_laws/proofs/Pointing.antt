@@ -1,6 +1,5 @@
 -- The pointing guide keeps the rules under every turn order, where its filling is lawful.
-use Rattle.std.proofs.Common.{◌≡◌, ℕ, ◌+◌, ◌<◌, ◌≤◌, true, List, Some, Option, sym, refl, ap, ◌∙◌, subst, arith}
-use Rattle.std.specs.List.{ContainsAt as Has}
+use Rattle.std.proofs.Common.{◌≡◌, ℕ, ◌+◌, ◌<◌, ◌≤◌, true, List, Some, Option, sym, refl, ap, ◌∙◌, subst, arith, Contains}
 use Rattle.mesh.specs.declared.compass.Direction.{Direction}
 use Rattle.mesh.specs.declared.compass.Trip.{Trip}
 use Rattle.mesh.specs.declared.compass.Trip.TheVariants.{Seeking, Bound}
@@ -101,18 +100,18 @@ module _ (o : TurnOrder) (w h : ℕ) (es : List Place) (filling : List ℕ) wher
   }
 
   -- seeking: the goal is the router's own target
-  seeking_aim : (destination : Place) → ((e : Place) → Has es e → Inside w h e) → Pointed o w h es filling → Aim o guided Seeking destination
+  seeking_aim : (destination : Place) → ((e : Place) → Contains es e → Inside w h e) → Pointed o w h es filling → Aim o guided Seeking destination
   seeking_aim destination within f = record {
     goal = f.target;
     inside = λ p i. within (f.target p) (f.listed p i);
-    ends = λ p i e. subst (Has es) e (f.listed p i);
+    ends = λ p i e. subst (Contains es) e (f.listed p i);
     near = λ p q i j. f.nearest p (f.target q) i (f.listed q j);
     replies = λ p _ i. ap (permitted o) (ap unpack (f.points p i) ∙ faithful.unpacked (toward p (f.target p)));
     keeps = f.keeps;
   }
 
   -- a lawful filling keeps the rules, with the channels numbered by the turn order alone
-  pub pointing_rules : 0 < w → 0 < h → ((e : Place) → Has es e → Inside w h e) → pointing_lawful o w h es filling → Rules guided
+  pub pointing_rules : 0 < w → 0 < h → ((e : Place) → Contains es e → Inside w h e) → pointing_lawful o w h es filling → Rules guided
   pointing_rules _ _ within lawful = record {
     number = channel o w h;
     goes = λ trip to s p side n c short_of. aim_goes (aim trip to s) p side n c short_of;

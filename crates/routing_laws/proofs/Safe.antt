@@ -1,9 +1,8 @@
 -- MD-safe's half: its length, its range, and that it points at the last nearest elevator.
-use Rattle.std.proofs.Common.{◌≡◌, ℕ, ◌+◌, ◌*◌, ◌%◌, ◌<◌, ◌≤◌, List, map, length, get_or, set, sym, ap, ◌∙◌, subst, mod-eq_of_lt, arith}
+use Rattle.std.proofs.Common.{◌≡◌, ℕ, ◌+◌, ◌*◌, ◌%◌, ◌<◌, ◌≤◌, List, map, length, get_or, set, sym, ap, ◌∙◌, subst, mod-eq_of_lt, arith, All}
 use lib.ListN.{length-map}
-use Rattle.std.specs.List.{AllByRecursion}
 use Rattle.std.proofs.lemmas.List.FromFn.{get_or-map-range_with_len, length-map-range_with_len}
-use Rattle.std.proofs.ByRecursion.{All-from_get_or, All-map}
+use Rattle.std.proofs.lemmas.List.Elements.{All-from_get_or, All-map}
 use Rattle.std.proofs.lemmas.List.{get_or-map}
 use Rattle.mesh.specs.declared.compass.Way.{Way}
 use Rattle.mesh.specs.declared.grid.Place.{Place}
@@ -22,7 +21,7 @@ module _ (f : Place → ℕ) (w h : ℕ) where
   pub places_long : length (map f (places w h)) ≡ w * h
   places_long = length-map (places w h) f ∙ length-map-range_with_len (place_at w h) 0 (w * h)
 
-  pub places_small : ((p : Place) → f p < 16) → AllByRecursion (λ v. v < 16) (map f (places w h))
+  pub places_small : ((p : Place) → f p < 16) → All (λ v. v < 16) (map f (places w h))
   places_small small = All-map (λ v. v < 16) f (places w h) (All-from_get_or (λ p. f p < 16) (places w h) origin (λ i _. small (get_or (places w h) i origin)))
 
   pub place_of : (i : ℕ) → i < w * h → get_or (places w h) i origin ≡ place_at w h i
@@ -46,7 +45,7 @@ module _ (w h : ℕ) (es : List Place) where
   pub safe_long : length (safe_half w h es) ≡ w * h
   safe_long = places_long (λ p. pointing p (last_nearest p es)) w h
 
-  pub safe_small : AllByRecursion (λ v. v < 16) (safe_half w h es)
+  pub safe_small : All (λ v. v < 16) (safe_half w h es)
   safe_small = places_small (λ p. pointing p (last_nearest p es)) w h safe_below
 
   pub points_safely : (way : Way) (bytes : List ℕ) → 0 < length es → length bytes ≡ w * h → PointsSafely w h es way (put_halves way bytes (safe_half w h es))

@@ -1,8 +1,7 @@
 -- The optimistic guide: its lawful fillings, and that it keeps the rules.
-use Rattle.std.proofs.Common.{◌≡◌, ℕ, ◌-◌, ◌*◌, ◌<◌, true, false, cond, ◌&&◌, List, [], length, get_or, Some, None, Decides, Option, sym, refl, ap, ◌∙◌, subst, ⊎_elim, arith}
-use Rattle.std.specs.List.{ContainsAt as Has}
+use Rattle.std.proofs.Common.{◌≡◌, ℕ, ◌-◌, ◌*◌, ◌<◌, true, false, cond, ◌&&◌, List, [], length, get_or, Some, None, Decides, Option, sym, refl, ap, ◌∙◌, subst, ⊎_elim, arith, Contains}
 use Rattle.std.proofs.lemmas.List.FromFn.{length-map-range_with_len}
-use Rattle.std.proofs.ByRecursion.{has_get_or}
+use Rattle.std.proofs.lemmas.List.Elements.{Contains-get_or}
 use Rattle.std.proofs.lemmas.List.{get_or-map}
 use Rattle.std.proofs.lemmas.Bool.{and_parts, both_ways, cases_order, cond_both, false≢true}
 use Rattle.std.proofs.lemmas.Bool.Decides.{nat_tests}
@@ -12,14 +11,14 @@ use Rattle.mesh.specs.declared.compass.Directions.{Directions}
 use Rattle.mesh.specs.declared.compass.Trip.{Trip}
 use Rattle.mesh.specs.declared.compass.Trip.TheVariants.{Seeking, Bound}
 use Rattle.mesh.specs.declared.grid.Place.{Place}
-use Rattle.mesh.specs.Compass.{has, toward}
+use Rattle.mesh.specs.Compass.{has, only, toward}
 use Rattle.mesh.specs.Halves.{pack, unpack}
 use Rattle.mesh.specs.Layout.{Inside, cell, place_at}
 use Rattle.mesh.specs.Orders.{permitted, xy}
 use Rattle.mesh.proofs.Masks.{faithful}
 use Rattle.routing_laws.specs.Chains.{Next, Plane, Rules, Starts, back, half_at}
 use Rattle.routing_laws.specs.Elevators.{origin, places}
-use Rattle.routing_laws.specs.Guides.{along, only, optimistic_lawful, optimistic_reply, seek}
+use Rattle.routing_laws.specs.Guides.{along, optimistic_lawful, optimistic_reply, seek}
 use Rattle.routing_laws.specs.Optimistic.{compass, open_half}
 use Rattle.routing_laws.proofs.Compass.{compass_is}
 use Rattle.routing_laws.proofs.Headings.{Aims, Heads, Leading, Sees, leading_rules, number}
@@ -120,36 +119,36 @@ module _ {w h : ℕ} {p q : Place} (i : Inside w h p) (j : Inside w h q) where
     seek_rises West n = along_rises West (omega arith) (omega arith)
 
 module _ (es : List Place) (p : Place) where
-  compass_sees : (d : Direction) → Decides (has d (compass es p)) (Sees (Has es) d p)
+  compass_sees : (d : Direction) → Decides (has d (compass es p)) (Sees (Contains es) d p)
   compass_sees North = (compass_is es p).north_is
   compass_sees East = (compass_is es p).east_is
   compass_sees South = (compass_is es p).south_is
   compass_sees West = (compass_is es p).west_is
 
-  unseen : (d : Direction) → has d (compass es p) ≡ false → (t : Place) → Has es t → Heads d p t → ⊥
+  unseen : (d : Direction) → has d (compass es p) ≡ false → (t : Place) → Contains es t → Heads d p t → ⊥
   unseen d e t at a = both_ways (has d (compass es p)) e ((compass_sees d).1 (t, at, a))
 
-  module _ (none : Has es p → ⊥) where
-    apart : (t : Place) → Has es t → t.x ≡ p.x → t.y ≡ p.y → ⊥
-    apart t at column row = none (subst (Has es) (λ i. record { x = column i; y = row i }) at)
+  module _ (none : Contains es p → ⊥) where
+    apart : (t : Place) → Contains es t → t.x ≡ p.x → t.y ≡ p.y → ⊥
+    apart t at column row = none (subst (Contains es) (λ i. record { x = column i; y = row i }) at)
 
     -- with no elevator here, none to the North and none to the South, none is in this column
-    elsewhere : has North (compass es p) ≡ false → has South (compass es p) ≡ false → (t : Place) → Has es t → t.x ≡ p.x → ⊥
+    elsewhere : has North (compass es p) ≡ false → has South (compass es p) ≡ false → (t : Place) → Contains es t → t.x ≡ p.x → ⊥
     elsewhere north south t at column =
         ⊎_elim (apart t at column) (⊎_elim (λ l. unseen South south t at (column, l)) (λ l. unseen North north t at (column, l))) (cases_order t.y p.y)
 
-    along_sees : (dest : Directions) (d : Direction) (t : Place) → Has es t → ((t.x ≡ p.x → ⊥) → Heads d p t) → Sees (Has es) (along (compass es p) dest d) p
+    along_sees : (dest : Directions) (d : Direction) (t : Place) → Contains es t → ((t.x ≡ p.x → ⊥) → Heads d p t) → Sees (Contains es) (along (compass es p) dest d) p
     along_sees dest d t at far =
-        along_by (compass es p) dest (λ e. Sees (Has es) e p) d (compass_sees d).0 (compass_sees North).0 (compass_sees South).0 (λ n s. (t, at, far (elsewhere n s t at)))
+        along_by (compass es p) dest (λ e. Sees (Contains es) e p) d (compass_sees d).0 (compass_sees North).0 (compass_sees South).0 (λ n s. (t, at, far (elsewhere n s t at)))
 
     -- the port that the guide picks leads towards an elevator
-    seek_sees : 0 < length es → (dest : Directions) (side : Option Direction) → Aims (Has es) side p → Sees (Has es) (seek (compass es p) dest side) p
-    seek_sees some dest None _ = first_by (compass es p) dest (λ e. Sees (Has es) e p) (λ d. (compass_sees d).0) rest
+    seek_sees : 0 < length es → (dest : Directions) (side : Option Direction) → Aims (Contains es) side p → Sees (Contains es) (seek (compass es p) dest side) p
+    seek_sees some dest None _ = first_by (compass es p) dest (λ e. Sees (Contains es) e p) (λ d. (compass_sees d).0) rest
       where
-        rest : has North (compass es p) ≡ false → has South (compass es p) ≡ false → has West (compass es p) ≡ false → Sees (Has es) East p
+        rest : has North (compass es p) ≡ false → has South (compass es p) ≡ false → has West (compass es p) ≡ false → Sees (Contains es) East p
         rest n s w =
             let t = get_or es 0 origin in
-            let at : Has es t = has_get_or es 0 origin some in
+            let at : Contains es t = Contains-get_or es 0 origin some in
             (t, at, omega (arith, elsewhere n s t at, unseen West w t at))
     seek_sees some dest (Some North) (t, at, a) = (t, at, (a.0, omega (arith, apart t at a.0)))
     seek_sees some dest (Some East) (t, at, a) = along_sees dest West t at (λ far. omega arith)
@@ -159,11 +158,11 @@ module _ (es : List Place) (p : Place) where
 abbrev hopeful : ℕ → ℕ → List Place → List ℕ → Plane
 hopeful w h es filling = record { width = w; height = h; elevators = es; filling = filling; reply = optimistic_reply }
 
-module _ (w h : ℕ) (es : List Place) (filling : List ℕ) (inside : (e : Place) → Has es e → Inside w h e) (lawful : optimistic_lawful w h es filling) where
+module _ (w h : ℕ) (es : List Place) (filling : List ℕ) (inside : (e : Place) → Contains es e → Inside w h e) (lawful : optimistic_lawful w h es filling) where
   leading : (trip : Trip) (dest : Place) → Starts (hopeful w h es filling) trip dest → Leading (hopeful w h es filling) trip dest
   leading Seeking dest (some, _) = record {
     goes = λ p side away. (picked p side, only_has (picked p side));
-    leads = λ p side i a away. only_by (λ e. Sees (Has es) e p) (picked p side) (picked_sees p side i a away);
+    leads = λ p side i a away. only_by (λ e. Sees (Contains es) e p) (picked p side) (picked_sees p side i a away);
     ends = inside;
     rises = λ p q side i j d _ next. only_by (λ e. number w h p d < number w h q e) (picked q (Some (back d))) (seek_rises i j (unpack (half_at w h filling q)) (toward q dest) d next);
   }
@@ -171,10 +170,10 @@ module _ (w h : ℕ) (es : List Place) (filling : List ℕ) (inside : (e : Place
       picked : Place → Option Direction → Direction
       picked p side = seek (unpack (half_at w h filling p)) (toward p dest) side
 
-      picked_sees : (p : Place) (side : Option Direction) → Inside w h p → Aims (Has es) side p → (Has es p → ⊥) → Sees (Has es) (picked p side) p
+      picked_sees : (p : Place) (side : Option Direction) → Inside w h p → Aims (Contains es) side p → (Contains es p → ⊥) → Sees (Contains es) (picked p side) p
       picked_sees p side i a away =
           let read : unpack (half_at w h filling p) ≡ compass es p = ap unpack (lawful some p i) ∙ faithful.unpacked (compass es p) in
-          subst (λ s. Sees (Has es) (seek s (toward p dest) side) p) (sym read) (seek_sees es p away some (toward p dest) side a)
+          subst (λ s. Sees (Contains es) (seek s (toward p dest) side) p) (sym read) (seek_sees es p away some (toward p dest) side a)
   leading Bound dest inside-dest = record {
     goes = λ p side away. let to = some_heads p dest away in (to.0, (xy_heads to.0 p dest).1 to.1);
     leads = λ p side _ _ _ d permits. (dest, refl, (xy_heads d p dest).0 permits);
@@ -183,6 +182,6 @@ module _ (w h : ℕ) (es : List Place) (filling : List ℕ) (inside : (e : Place
   }
 
 -- the optimistic guide keeps the rules under every filling that says where elevators lie
-pub optimistic_rules : (w h : ℕ) (es : List Place) (filling : List ℕ) → 0 < w → 0 < h → ((e : Place) → Has es e → Inside w h e) → optimistic_lawful w h es filling
+pub optimistic_rules : (w h : ℕ) (es : List Place) (filling : List ℕ) → 0 < w → 0 < h → ((e : Place) → Contains es e → Inside w h e) → optimistic_lawful w h es filling
     → Rules record { width = w; height = h; elevators = es; filling = filling; reply = optimistic_reply }
 optimistic_rules w h es filling _ _ inside lawful = leading_rules (hopeful w h es filling) (leading w h es filling inside lawful)

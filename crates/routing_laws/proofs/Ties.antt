@@ -1,9 +1,7 @@
 -- Random-offline: the candidates are exactly those that its rule names, and how its loops find them.
-use Rattle.std.proofs.Common.{◌≡◌, ℕ, zero, suc, ◌+◌, ◌*◌, ◌<◌, ◌≤◌, min, Bool, true, false, cond, eqb, leb, ◌⊎◌, List, [], ◌∷◌, ◌++◌, length, get_or, take, set, fold, filter, sym, refl, ap, ◌∙◌, subst, subst₂, inl, inr, ⊎_elim, arith}
-use Rattle.std.specs.List.{ContainsAt as Has, AllByRecursion}
+use Rattle.std.proofs.Common.{◌≡◌, ℕ, zero, suc, ◌+◌, ◌*◌, ◌<◌, ◌≤◌, min, Bool, true, false, cond, eqb, leb, ◌⊎◌, List, [], ◌∷◌, ◌++◌, length, get_or, take, set, fold, filter, sym, refl, ap, ◌∙◌, subst, subst₂, inl, inr, ⊎_elim, arith, Contains, All}
 use Rattle.std.proofs.lemmas.List.FromFn.{length-map-range_with_len}
-use Rattle.std.proofs.lemmas.List.Elements.{filter_more}
-use Rattle.std.proofs.ByRecursion.{has_append_right, has_get_or}
+use Rattle.std.proofs.lemmas.List.Elements.{All-cons, All-nil, Contains-append_right, Contains-get_or, filter_more}
 use Rattle.std.proofs.lemmas.Bool.{and_from, and_parts, cases_lt, cond_both, cond-true, eq-eqb, eqb-true, le-leb, leb-true}
 use Rattle.mesh.specs.declared.compass.Direction.{Direction}
 use Rattle.mesh.specs.declared.compass.Direction.TheVariants.{North, East, South, West}
@@ -37,25 +35,25 @@ folded_each p n (e ∷ es) zero d l = let rest = folded_le p (min n (distance p 
 folded_each p n (e ∷ es) (suc k) d l = folded_each p (min n (distance p e)) es k d (omega arith)
 
 -- the smallest is the number to start with, or it is reached
-reached : (p : Place) (n : ℕ) (es : List Place) → (fold (smaller p) n es ≡ n) ⊎ ((e : Place) × Has es e × (distance p e ≡ fold (smaller p) n es))
+reached : (p : Place) (n : ℕ) (es : List Place) → (fold (smaller p) n es ≡ n) ⊎ ((e : Place) × Contains es e × (distance p e ≡ fold (smaller p) n es))
 reached p n [] = inl refl
 reached p n (e ∷ es) =
     ⊎_elim
-    (λ (q : fold (smaller p) (smaller p n e) es ≡ smaller p n e). ⊎_elim (λ (l : n < distance p e). inl (omega arith)) (λ (l : distance p e ≤ n). inr (e, (0, omega arith, λ d. refl), omega arith)) (cases_lt n (distance p e)))
-    (λ (w : (f : Place) × Has es f × (distance p f ≡ fold (smaller p) (smaller p n e) es)). inr (w.0, has_append_right (e ∷ []) es w.0 w.1, w.2))
+    (λ (q : fold (smaller p) (smaller p n e) es ≡ smaller p n e). ⊎_elim (λ (l : n < distance p e). inl (omega arith)) (λ (l : distance p e ≤ n). inr (e, (0, omega arith, refl), omega arith)) (cases_lt n (distance p e)))
+    (λ (w : (f : Place) × Contains es f × (distance p f ≡ fold (smaller p) (smaller p n e) es)). inr (w.0, Contains-append_right (e ∷ []) es w.0 w.1, w.2))
     (reached p (smaller p n e) es)
 
 module _ (p : Place) (es : List Place) where
-  least_le : (e : Place) → Has es e → least p es ≤ distance p e
-  least_le e h = subst (λ f. least p es ≤ distance p f) (h.2 origin) (folded_each p (distance p (get_or es 0 origin)) es h.0 origin h.1)
+  least_le : (e : Place) → Contains es e → least p es ≤ distance p e
+  least_le e h = subst (λ f. least p es ≤ distance p f) h.2 (folded_each p (distance p (get_or es 0 origin)) es h.0 e h.1)
 
-  least_some : 0 < length es → (e : Place) × Has es e × (distance p e ≡ least p es)
-  least_some l = ⊎_elim (λ q. (get_or es 0 origin, has_get_or es 0 origin l, sym q)) (λ w. w) (reached p (distance p (get_or es 0 origin)) es)
+  least_some : 0 < length es → (e : Place) × Contains es e × (distance p e ≡ least p es)
+  least_some l = ⊎_elim (λ q. (get_or es 0 origin, Contains-get_or es 0 origin l, sym q)) (λ w. w) (reached p (distance p (get_or es 0 origin)) es)
 
   nearest_at : (e : Place) → Nearest es p e → distance p e ≡ least p es
   nearest_at e n = let some = least_some (omega (arith, n.0.1)) in omega (arith, least_le e n.0, n.1 some.0 some.1, some.2)
 
-  at_nearest : (e : Place) → Has es e → distance p e ≡ least p es → Nearest es p e
+  at_nearest : (e : Place) → Contains es e → distance p e ≡ least p es → Nearest es p e
   at_nearest e h q = (h, λ f g. omega (arith, least_le f g))
 
 -- needing only set 1 is needing no set below it
@@ -76,24 +74,24 @@ module _ (o : TurnOrder) (s : Directions) where
 
 -- the two lists that the candidates are taken from
 module _ (o : TurnOrder) (p : Place) (es : List Place) where
-  near_has : (e : Place) → Nearest es p e → Has (filter (candidate o p (least p es) false) es) e
+  near_has : (e : Place) → Nearest es p e → Contains (filter (candidate o p (least p es) false) es) e
   near_has e n = kept_has (candidate o p (least p es) false) es e n.0 (eq-eqb (distance p e) (least p es) (nearest_at p es e n))
 
-  has_near : (e : Place) → Has (filter (candidate o p (least p es) false) es) e → Nearest es p e
+  has_near : (e : Place) → Contains (filter (candidate o p (least p es) false) es) e → Nearest es p e
   has_near e h = let k = has_kept (candidate o p (least p es) false) es e h in at_nearest p es e k.0 (eqb-true (distance p e) (least p es) k.1)
 
-  suits_has : (e : Place) → Nearest es p e → LateOnly o p e → Has (filter (candidate o p (least p es) true) es) e
+  suits_has : (e : Place) → Nearest es p e → LateOnly o p e → Contains (filter (candidate o p (least p es) true) es) e
   suits_has e n late = kept_has (candidate o p (least p es) true) es e n.0 (and_from (eqb (distance p e) (least p es)) (leb 1 (lowest o (toward p e))) (eq-eqb (distance p e) (least p es) (nearest_at p es e n)) (only_late o (toward p e) late))
 
-  has_suits : (e : Place) → Has (filter (candidate o p (least p es) true) es) e → Nearest es p e × LateOnly o p e
+  has_suits : (e : Place) → Contains (filter (candidate o p (least p es) true) es) e → Nearest es p e × LateOnly o p e
   has_suits e h =
       let k = has_kept (candidate o p (least p es) true) es e h in
       let both = and_parts (eqb (distance p e) (least p es)) (leb 1 (lowest o (toward p e))) k.1 in
       (at_nearest p es e k.0 (eqb-true (distance p e) (least p es) both.0), late_only o (toward p e) both.1)
 
   -- a list, with what it holds, or else another
-  from_lists : 0 < length es → (late others : List Place) → ((e : Place) → Nearest es p e → LateOnly o p e → Has late e) → ((e : Place) → Has late e → Nearest es p e × LateOnly o p e)
-      → ((e : Place) → Nearest es p e → Has others e) → ((e : Place) → Has others e → Nearest es p e) → Candidates o p es (or_else late others)
+  from_lists : 0 < length es → (late others : List Place) → ((e : Place) → Nearest es p e → LateOnly o p e → Contains late e) → ((e : Place) → Contains late e → Nearest es p e × LateOnly o p e)
+      → ((e : Place) → Nearest es p e → Contains others e) → ((e : Place) → Contains others e → Nearest es p e) → Candidates o p es (or_else late others)
   from_lists l [] others to from to' from' =
       let some = least_some p es l in
       let first = to' some.0 (at_nearest p es some.0 some.1 some.2) in
@@ -109,7 +107,7 @@ module _ (o : TurnOrder) (p : Place) (es : List Place) where
     nearest = λ e h. (from e h).0;
     late = λ e f _ _ h. (from f h).1;
     all_late = to;
-    all_near = λ none e n. let first = from x (0, omega arith, λ d. refl) in absurd (none x first.0 first.1);
+    all_near = λ none e n. let first = from x (0, omega arith, refl) in absurd (none x first.0 first.1);
   }
 
   pub exact : 0 < length es → Candidates o p es (candidates o p es)
@@ -172,13 +170,13 @@ filled_long : {C : Type 0} (point : Place → C → ℕ) (step : Place → C →
 filled_long point step [] c = refl
 filled_long point step (p ∷ ps) c = ap suc (filled_long point step ps (step p c))
 
-filled_small : {C : Type 0} (point : Place → C → ℕ) (step : Place → C → C) → ((p : Place) (c : C) → point p c < 16) → (ps : List Place) (c : C) → AllByRecursion (λ v. v < 16) (filled point step ps c)
-filled_small point step small [] c = tt
-filled_small point step small (p ∷ ps) c = (small p c, filled_small point step small ps (step p c))
+filled_small : {C : Type 0} (point : Place → C → ℕ) (step : Place → C → C) → ((p : Place) (c : C) → point p c < 16) → (ps : List Place) (c : C) → All (λ v. v < 16) (filled point step ps c)
+filled_small point step small [] c = All-nil (λ v. v < 16)
+filled_small point step small (p ∷ ps) c = All-cons (λ v. v < 16) (point p c) (filled point step ps (step p c)) (small p c) (filled_small point step small ps (step p c))
 
 module _ {C : Type 0} (position : C → Asked → ℕ) (after : C → Asked → C) (o : TurnOrder) (t : Task) (c : C) where
   pub tie_long : length (tie_half position after o t c) ≡ t.width * t.height
   tie_long = filled_long _ _ (places t.width t.height) c ∙ length-map-range_with_len (place_at t.width t.height) 0 (t.width * t.height)
 
-  pub tie_small : AllByRecursion (λ v. v < 16) (tie_half position after o t c)
+  pub tie_small : All (λ v. v < 16) (tie_half position after o t c)
   tie_small = filled_small _ _ (λ p d. pack_small (toward p (target position after o t.plane t.way t.elevators p d))) (places t.width t.height) c

@@ -1,6 +1,5 @@
 -- Chains of permitted moves in one plane, and the three rules that a guide keeps.
-use Rattle.std.specs.Prelude.{◌≡◌, ℕ, ◌+◌, ◌-◌, ◌<◌, ◌≤◌, true, List, length, Some, None, Option, slice_index}
-use Rattle.std.specs.List.{ContainsAt as Has}
+use Rattle.std.specs.Prelude.{◌≡◌, ℕ, ◌+◌, ◌-◌, ◌<◌, ◌≤◌, true, List, length, Some, None, Option, slice_index, Contains}
 use Rattle.mesh.specs.declared.compass.Direction.{Direction}
 use Rattle.mesh.specs.declared.compass.Direction.TheVariants.{North, East, South, West}
 use Rattle.mesh.specs.declared.compass.Directions.{Directions}
@@ -79,7 +78,7 @@ module _ (P : Plane) (trip : Trip) (destination : Place) where
 
 -- the end of a trip: the first elevator, or the router it is bound for
 abbrev pub Ended : Plane → Trip → Place → Place → Type 0
-Ended P Seeking destination p = Has P.elevators p
+Ended P Seeking destination p = Contains P.elevators p
 Ended P Bound destination p = p ≡ destination
 
 -- which trips start: none seeks where there is no elevator

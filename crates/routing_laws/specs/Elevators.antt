@@ -1,6 +1,6 @@
 -- The elevators of a gap: the places where the link map has a link.
-use Rattle.std.specs.Prelude.{◌≡◌, ℕ, ◌*◌, ◌<◌, Bool, List, map, length, get_or, filter, ◌==◌, slice_index, slice_index_or}
-use Rattle.std.specs.List.{range_with_len, ContainsAt as Has}
+use Rattle.std.specs.Prelude.{◌≡◌, ℕ, ◌*◌, ◌<◌, Bool, List, map, length, get_or, filter, ◌==◌, slice_index, slice_index_or, Contains}
+use Rattle.std.specs.List.{range_with_len}
 use Rattle.mesh.specs.declared.grid.Place.{Place}
 use Rattle.mesh.specs.Layout.{Inside, cell, place_at}
 
@@ -22,9 +22,9 @@ elevators w h links g = filter (linked w h links g) (places w h)
 
 -- what such a list is: the places of the plane with a link, all of them, each once, in row order
 pub record Listed (w h : ℕ) (links : List ℕ) (g : ℕ) (es : List Place) : Type 0 where
-  pub inside : (p : Place) → Has es p → Inside w h p
-  pub sound : (p : Place) → Has es p → slice_index links (cell w h g p) ≡ 1
-  pub complete : (p : Place) → Inside w h p → slice_index links (cell w h g p) ≡ 1 → Has es p
+  pub inside : (p : Place) → Contains es p → Inside w h p
+  pub sound : (p : Place) → Contains es p → slice_index links (cell w h g p) ≡ 1
+  pub complete : (p : Place) → Inside w h p → slice_index links (cell w h g p) ≡ 1 → Contains es p
   pub rising : (i j : ℕ) → i < j → j < length es → cell w h 0 (slice_index_or es i origin) < cell w h 0 (slice_index_or es j origin)
 
 -- a gap with a link

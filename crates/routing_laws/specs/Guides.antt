@@ -1,6 +1,5 @@
 -- The two supplied guides: what they reply, and which fillings are lawful for them.
-use Rattle.std.specs.Prelude.{◌≡◌, ℕ, ◌<◌, ◌≤◌, true, false, cond, ◌&&◌, List, length, Some, None, Option}
-use Rattle.std.specs.List.{ContainsAt as Has}
+use Rattle.std.specs.Prelude.{◌≡◌, ℕ, ◌<◌, ◌≤◌, true, cond, ◌&&◌, List, length, Some, None, Option, Contains}
 use Rattle.mesh.specs.declared.compass.Direction.{Direction}
 use Rattle.mesh.specs.declared.compass.Direction.TheVariants.{North, East, South, West}
 use Rattle.mesh.specs.declared.compass.Directions.{Directions}
@@ -8,7 +7,7 @@ use Rattle.mesh.specs.declared.compass.Trip.{Trip}
 use Rattle.mesh.specs.declared.compass.Trip.TheVariants.{Seeking, Bound}
 use Rattle.mesh.specs.declared.grid.Place.{Place}
 use Rattle.mesh.specs.declared.turns.TurnOrder.{TurnOrder}
-use Rattle.mesh.specs.Compass.{distance, has, toward}
+use Rattle.mesh.specs.Compass.{distance, has, only, toward}
 use Rattle.mesh.specs.Halves.{pack, unpack}
 use Rattle.mesh.specs.Layout.{Inside}
 use Rattle.mesh.specs.Orders.{allows, lowest, permitted, xy}
@@ -27,25 +26,14 @@ pointing_reply o t = permitted o (needed t.trip t)
 -- a filling that points, each router at a nearest elevator, so that a permitted step never falls back to a lower set
 pub record Pointed (o : TurnOrder) (w h : ℕ) (es : List Place) (filling : List ℕ) : Type 0 where
   pub target : Place → Place
-  pub listed : (p : Place) → Inside w h p → Has es (target p)
-  pub nearest : (p e : Place) → Inside w h p → Has es e → distance p (target p) ≤ distance p e
+  pub listed : (p : Place) → Inside w h p → Contains es (target p)
+  pub nearest : (p e : Place) → Inside w h p → Contains es e → distance p (target p) ≤ distance p e
   pub points : (p : Place) → Inside w h p → half_at w h filling p ≡ pack (toward p (target p))
   pub keeps : (p q : Place) (d : Direction) → Inside w h p → Inside w h q → allows o (toward p (target p)) d ≡ true → Next d p q → lowest o (toward p (target p)) ≤ lowest o (toward q (target q))
 
 -- lawful for the pointing guide; without elevators nobody seeks, and any filling will do
 abbrev pub pointing_lawful : TurnOrder → ℕ → ℕ → List Place → List ℕ → Type 0
 pointing_lawful o w h es filling = 0 < length es → Pointed o w h es filling
-
--- one port alone
-abbrev pub only : Direction → Directions
-only North = record { north = true; east = false; south = false; west = false }
-only East = record { north = false; east = true; south = false; west = false }
-only South = record { north = false; east = false; south = true; west = false }
-only West = record { north = false; east = false; south = false; west = true }
-
--- the directions that two sets share
-abbrev pub both : Directions → Directions → Directions
-both s t = record { north = s.north && t.north; east = s.east && t.east; south = s.south && t.south; west = s.west && t.west }
 
 -- the optimistic guide when seeking, from the half-byte's directions, the destination's, and the side: the first port
 -- that applies
@@ -87,10 +75,10 @@ optimistic_lawful w h es filling = 0 < length es → (p : Place) → Inside w h 
 -- the theorems: under a lawful filling the guide keeps the rules, for all sizes, elevators, fillings and orders
 abbrev pub PointingKeeps : Type 0
 PointingKeeps =
-    (o : TurnOrder) (w h : ℕ) (es : List Place) (filling : List ℕ) → 0 < w → 0 < h → ((e : Place) → Has es e → Inside w h e)
+    (o : TurnOrder) (w h : ℕ) (es : List Place) (filling : List ℕ) → 0 < w → 0 < h → ((e : Place) → Contains es e → Inside w h e)
     → pointing_lawful o w h es filling → Rules (plane_of w h es filling (pointing_reply o))
 
 abbrev pub OptimisticKeeps : Type 0
 OptimisticKeeps =
-    (w h : ℕ) (es : List Place) (filling : List ℕ) → 0 < w → 0 < h → ((e : Place) → Has es e → Inside w h e)
+    (w h : ℕ) (es : List Place) (filling : List ℕ) → 0 < w → 0 < h → ((e : Place) → Contains es e → Inside w h e)
     → optimistic_lawful w h es filling → Rules (plane_of w h es filling optimistic_reply)

@@ -1,6 +1,5 @@
 -- Random-offline: which elevators are candidates at a router, when the chooser is asked, and what is written.
-use Rattle.std.specs.Prelude.{◌≡◌, ℕ, ◌<◌, ◌≤◌, min, Bool, true, false, cond, ◌&&◌, List, [], ◌∷◌, length, fold, filter, ◌==◌, nat_le, nat_lt, slice_index_or}
-use Rattle.std.specs.List.{ContainsAt as Has}
+use Rattle.std.specs.Prelude.{◌≡◌, ℕ, ◌<◌, ◌≤◌, min, Bool, true, false, cond, ◌&&◌, List, [], ◌∷◌, length, fold, filter, ◌==◌, nat_le, nat_lt, slice_index_or, Contains}
 use Rattle.mesh.specs.declared.compass.Direction.{Direction}
 use Rattle.mesh.specs.declared.compass.Way.{Way}
 use Rattle.mesh.specs.declared.grid.Place.{Place}
@@ -30,17 +29,17 @@ candidates o p es = or_else (filter (candidate o p (least p es) true) es) (filte
 
 -- the same as a relation: e is nearest to p; e needs only directions of set 1
 abbrev pub Nearest : List Place → Place → Place → Type 0
-Nearest es p e = Has es e × ((f : Place) → Has es f → distance p e ≤ distance p f)
+Nearest es p e = Contains es e × ((f : Place) → Contains es f → distance p e ≤ distance p f)
 
 abbrev pub LateOnly : TurnOrder → Place → Place → Type 0
 LateOnly o p e = (d : Direction) → has d (toward p e) ≡ true → set_of o d ≡ 1
 
 pub record Candidates (o : TurnOrder) (p : Place) (es cs : List Place) : Type 0 where
   pub some : 0 < length cs
-  pub nearest : (e : Place) → Has cs e → Nearest es p e
-  pub late : (e f : Place) → Nearest es p e → LateOnly o p e → Has cs f → LateOnly o p f
-  pub all_late : (e : Place) → Nearest es p e → LateOnly o p e → Has cs e
-  pub all_near : ((e : Place) → Nearest es p e → LateOnly o p e → ⊥) → (e : Place) → Nearest es p e → Has cs e
+  pub nearest : (e : Place) → Contains cs e → Nearest es p e
+  pub late : (e f : Place) → Nearest es p e → LateOnly o p e → Contains cs f → LateOnly o p f
+  pub all_late : (e : Place) → Nearest es p e → LateOnly o p e → Contains cs e
+  pub all_near : ((e : Place) → Nearest es p e → LateOnly o p e → ⊥) → (e : Place) → Nearest es p e → Contains cs e
 
 -- the theorem: the candidates are those
 abbrev pub CandidatesExact : Type 0

@@ -8,8 +8,7 @@ ghost use Rattle.routing_laws.proofs.Lawful.{safe_lawful, tie_lawful};
 ghost use Rattle.routing_laws.proofs.Seeking.{open_lawful};
 
 use crate::scheme::Scheme;
-use mesh::{Place, Sizes, Way};
-use routing::{Chooser, Filler, MdSafe, Optimistic, RandomOffline};
+use routing::{Chooser, Filler, MdSafe, Optimistic, RandomOffline, Task};
 
 impl<C: Chooser> Filler<C> for Scheme {
     ghost half = { λ f t c. scheme_half C.Chooser.position C.Chooser.after f t c };
@@ -42,25 +41,11 @@ impl<C: Chooser> Filler<C> for Scheme {
         *self
     }
 
-    fn fill(
-        &self,
-        sizes: Sizes,
-        plane: u8,
-        way: Way,
-        elevators: &[Place],
-        chooser: &mut C,
-        bytes: &mut [u8],
-    ) {
+    fn fill(&self, task: Task, chooser: &mut C, bytes: &mut [u8]) {
         match *self {
-            Scheme::MdSafe(order) => {
-                let filler = MdSafe { order };
-                filler.fill(sizes, plane, way, elevators, chooser, bytes)
-            }
-            Scheme::RandomOffline(order) => {
-                let filler = RandomOffline { order };
-                filler.fill(sizes, plane, way, elevators, chooser, bytes)
-            }
-            Scheme::Optimistic => { Optimistic.fill(sizes, plane, way, elevators, chooser, bytes) }
+            Scheme::MdSafe(order) => MdSafe { order }.fill(task, chooser, bytes),
+            Scheme::RandomOffline(order) => RandomOffline { order }.fill(task, chooser, bytes),
+            Scheme::Optimistic => Optimistic.fill(task, chooser, bytes),
         }
     }
 }

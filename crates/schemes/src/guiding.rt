@@ -7,8 +7,8 @@ ghost use Rattle.std.specs.Prelude.{◌*◌, replicate};
 ghost use Rattle.routing_laws.proofs.Lawful.{none_lawful};
 
 use crate::scheme::Scheme;
-use mesh::{Direction, Directions, Place, Sizes, Trip};
-use routing::{Guide, Optimistic, Pointing};
+use mesh::Directions;
+use routing::{Guide, Optimistic, Pointing, Request};
 
 impl Guide for Scheme {
     ghost reply = { λ g t. scheme_reply g t };
@@ -27,25 +27,12 @@ impl Guide for Scheme {
       | Optimistic ↦ λ w h. zero_lawful w h (replicate (w * h) 0)
     ] };
 
-    fn permits(
-        &self,
-        sizes: Sizes,
-        place: Place,
-        half: u8,
-        destination: Place,
-        side: Option<Direction>,
-        trip: Trip,
-    ) -> Directions {
+    fn permits(&self, request: Request) -> Directions {
         match *self {
-            Scheme::MdSafe(order) => {
-                let guide = Pointing { order };
-                guide.permits(sizes, place, half, destination, side, trip)
+            Scheme::MdSafe(order) | Scheme::RandomOffline(order) => {
+                Pointing { order }.permits(request)
             }
-            Scheme::RandomOffline(order) => {
-                let guide = Pointing { order };
-                guide.permits(sizes, place, half, destination, side, trip)
-            }
-            Scheme::Optimistic => Optimistic.permits(sizes, place, half, destination, side, trip),
+            Scheme::Optimistic => Optimistic.permits(request),
         }
     }
 }

@@ -2,8 +2,7 @@
 ghost use Rattle.schemes.specs.Ties.{tie_after, tie_position};
 ghost use Rattle.std.proofs.Common.{rules};
 
-use mesh::{Place, Way};
-use routing::{Chooser, First, Last, ShiftRegister};
+use routing::{Chooser, First, Last, Question, ShiftRegister};
 
 #[derive(Clone, Copy)]
 pub enum Tie {
@@ -19,16 +18,11 @@ impl Chooser for Tie {
 
     ghost within = { Prim.search rules };
 
-    fn choose(&mut self, plane: u8, way: Way, router: Place, candidates: &[Place]) -> usize {
-        match *self {
-            Tie::First => First.choose(plane, way, router, candidates),
-            Tie::Last => Last.choose(plane, way, router, candidates),
-            Tie::Register(register) => {
-                let mut moved = register;
-                let reply = moved.choose(plane, way, router, candidates);
-                *self = Tie::Register(moved);
-                reply
-            }
+    fn choose(&mut self, question: Question) -> usize {
+        match self {
+            Tie::First => First.choose(question),
+            Tie::Last => Last.choose(question),
+            Tie::Register(register) => register.choose(question),
         }
     }
 }

@@ -5,5 +5,5 @@ use Rattle.planner.proofs.planning.fill_gaps.Given as goal
 
 abbrev pub invariant-loop-gap : goal.invariant-loop-gap
 invariant-loop-gap g l =
-    Holds (job l.sizes l.map (g.F.Filler.half l.filler) (g.F.Filler.next l.filler)) l.initial.chooser l.gap l.bytes
-    × (l.chooser ≡ begun (job l.sizes l.map (g.F.Filler.half l.filler) (g.F.Filler.next l.filler)) l.initial.chooser l.gap)
+    Holds (job l.gaps.sizes l.gaps.map.now (g.F.Filler.half l.filler) (g.F.Filler.next l.filler)) l.initial.chooser l.gap l.bytes
+    × (l.chooser ≡ begun (job l.gaps.sizes l.gaps.map.now (g.F.Filler.half l.filler) (g.F.Filler.next l.filler)) l.initial.chooser l.gap)

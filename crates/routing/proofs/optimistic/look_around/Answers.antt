@@ -9,8 +9,8 @@ loop-i-init c = alone_none c.requires
 
 pub loop-i-preserved : goal.loop-i-preserved
 loop-i-preserved c =
-    let points = c.pack.ensures ∙ ap pack (c.look-seen.ensures ∙ ap (compass c.args.elevators.now) c.place_at.ensures) in
-    alone_more c.loop-i.invariant (omega arith) c.with_half.result (c.with_half.ensures ∙ ap (with_half c.args.way (get_or c.loop-i.bytes c.loop-i.i 0)) points)
+    let points = c.pack.ensures ∙ ap pack (c.look-seen.ensures ∙ ap (compass c.args.task.elevators.now) c.place_at.ensures) in
+    alone_more c.loop-i.invariant (omega arith) c.with_half.result (c.with_half.ensures ∙ ap (with_half c.args.task.way (get_or c.loop-i.bytes c.loop-i.i 0)) points)
 
 pub returns : goal.returns
 returns c = alone_all c.loop-i.invariant (omega arith)

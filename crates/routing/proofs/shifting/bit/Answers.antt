@@ -1,6 +1,0 @@
-use Rattle.std.proofs.Common.{◌/◌, ◌^◌}
-use lib.Bits.{and_mask}
-use Rattle.routing.proofs.shifting.bit.Goals as goal
-
-pub returns : goal.returns
-returns c = and_mask (c.args.state / 2 ^ c.args.k) 1
