@@ -17,9 +17,9 @@ use Rattle.mesh.specs.Layout.{Shown}
 use Rattle.description.specs.Reading.{Marked, Reading, extent_of, sets_of, spot}
 use Rattle.description.proofs.Spots.{gap_below, inner, inner_below, own_gap, same_link, spot_below, spot_inner}
 
-has_cons_cases : (y x : Link) (xs : List Link) → Contains (y ∷ xs) x → (y ≡ x) ⊎ Contains xs x
-has_cons_cases y x xs (zero, l, at) = inl at
-has_cons_cases y x xs (suc k, l, at) = inr (k, omega arith, at)
+Contains-cons_cases : (y x : Link) (xs : List Link) → Contains (y ∷ xs) x → (y ≡ x) ⊎ Contains xs x
+Contains-cons_cases y x xs (zero, l, at) = inl at
+Contains-cons_cases y x xs (suc k, l, at) = inr (k, omega arith, at)
 
 -- a link lies at an index, or none does
 lies : (e : Extent) (ls : List Link) (i : ℕ) → ((l : Link) × Contains ls l × (spot e l ≡ i)) ⊎ ((l : Link) → Contains ls l → spot e l ≡ i → ⊥)
@@ -31,7 +31,7 @@ lies e (y ∷ ys) i =
     ⊎_elim
     (λ (w : (l : Link) × Contains ys l × (spot e l ≡ i)). inl (w.0, Contains-append_right (y ∷ []) ys w.0 w.1, w.2))
     (λ (m : (l : Link) → Contains ys l → spot e l ≡ i → ⊥).
-    inr (λ l h p. ⊎_elim (λ (q : y ≡ l). n (ap (spot e) q ∙ p)) (λ (q : Contains ys l). m l q p) (has_cons_cases y l ys h)))
+    inr (λ l h p. ⊎_elim (λ (q : y ≡ l). n (ap (spot e) q ∙ p)) (λ (q : Contains ys l). m l q p) (Contains-cons_cases y l ys h)))
     (lies e ys i))
     (cases_eq (spot e y) i)
 

@@ -22,7 +22,8 @@ fn word(layer: Layer) -> &'static str
     }
 }
 
-// The line, made before it is known whether it fits the caller's buffer.
+// The line, made before it is known whether it fits the caller's buffer. Not by `write!`, whose contract leaves open
+// that it fails.
 fn fault_line(fault: StackFault) -> ArrayString<ROOM>
     ensures { result.bytes ≡ fault_text fault }
 {

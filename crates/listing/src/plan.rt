@@ -54,6 +54,7 @@ fn write_row(row: &[u8], out: &mut [u8])
 }
 
 // Writes `rows` rows of `width` bytes as lines over the front of `out`, by index too.
+#[tactic(auto, using(crate::proofs::Rows::row_within))]
 fn write_rows(width: usize, rows: usize, bytes: &[u8], out: &mut [u8])
     requires some { 0 < width }
     requires whole { rows * width ≤ length bytes.now }
@@ -84,6 +85,7 @@ fn write_plan(sizes: Sizes, bytes: &[u8], out: &mut [u8])
 }
 
 // The length of the text of any plan of these sizes.
+#[tactic(auto, using(crate::proofs::Rows::length_plan))]
 fn plan_size(sizes: Sizes) -> usize
     ensures { (bytes : List ℕ) → sizes.planes * (sizes.width * sizes.height) ≤ length bytes → length (plan_text sizes bytes) ≡ result }
 {

@@ -77,7 +77,8 @@ fn parse_state(word: &str) -> Result<u16, Reason> {
     u16::from_str_radix(word, 16).map_err(|_| Reason::NotRegister)
 }
 
-// The fields of each line from its numbers, in the order in which they are written.
+// The fields of each line from its numbers, in the order in which they are written: it is the script's order, so no
+// `From` of the types says it.
 fn stack_from(numbers: [u8; 3]) -> Extent
     ensures { result ≡ stack_from numbers }
 {

@@ -77,6 +77,7 @@ pub(crate) fn write_refusal<W: Write>(out: &mut W, refusal: Refusal) -> anyhow::
     Ok(())
 }
 
+// Not a `Display`: that would be one more wrapper around the same `match`.
 fn word(call: Call) -> &'static str {
     match call {
         Call::Inject { .. } => "inject",

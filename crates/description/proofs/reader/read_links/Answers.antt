@@ -4,7 +4,6 @@ use Rattle.std.proofs.lemmas.List.{length-set, nil_from_length}
 use Rattle.std.proofs.lemmas.Result.{MatchResult-at_err, MatchResult-at_ok}
 use Rattle.description_laws.specs.Description.{after_o}
 use Rattle.description_laws.proofs.Firsts.{first_place}
-use Rattle.description.specs.Reading.{Fails}
 use Rattle.description.proofs.Ends.{bare_gap, complete, follows}
 use Rattle.description.proofs.Exits.{exit}
 use Rattle.description.proofs.Marks.{another, gaps_below}
@@ -15,7 +14,7 @@ use Rattle.description.proofs.reader.read_links.Goals as goal
 pub returns-in_err-record : goal.returns-in_err-record
 returns-in_err-record c =
     let r = c.loop-record.invariant in
-    exit _ _ (Fails c.args.start.input.now) c.from_residual.ensures.1 (unread r.1.split r.1.sound _ (rw r.0 refl) _ after_o c.in_err-record.ensures)
+    exit _ _ _ c.from_residual.ensures.1 (unread r.1.split r.1.sound _ (rw r.0 refl) _ after_o c.in_err-record.ensures)
 
 pub returns-in_err-or_fault-in-Pillar : goal.returns-in_err-or_fault-in-Pillar
 returns-in_err-or_fault-in-Pillar c =
@@ -23,7 +22,7 @@ returns-in_err-or_fault-in-Pillar c =
     let h = c.in_ok-record.ensures in
     let f = c.in_err-or_fault-in-Pillar.ensures in
     let w = MatchResult-at_err _ _ _ f.1 c.mark.ensures in
-    exit _ _ (Fails c.args.start.input.now) c.from_residual-in_err-or_fault-in-Pillar.ensures.1
+    exit _ _ _ c.from_residual-in_err-or_fault-in-Pillar.ensures.1
     (rw (f.2, r.0) (unmarked _ _ _ r.1 (omega arith) (rw c.in-Pillar.is at h.1) (rw c.in-Pillar.is at h.2) w))
 
 pub returns-then-not-all_linked : goal.returns-then-not-all_linked
