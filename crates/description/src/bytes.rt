@@ -1,4 +1,5 @@
-// The byte layer: letters and bodies from the front of the input. `place` is where their record starts.
+// The byte layer: letters and bodies from the front of the input. `place` is where their record
+// starts: it stands only in a fault, and so beside the input and not in a struct with it.
 ghost use Rattle.std.specs.Prelude.{◌≡◌, ◌<◌, ◌∷◌, ◌++◌, length, MatchResult};
 ghost use Rattle.description.specs.Bodies.{extent_body, link_body, sets_body};
 

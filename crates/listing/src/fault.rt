@@ -12,6 +12,7 @@ use mesh::Refusal;
 // two spaces and the newline.
 const ROOM: usize = 32;
 
+// A function and no `Display`: the text goes into lent bytes, by equality with its definition.
 fn word(layer: Layer) -> &'static str
     ensures { result.now ≡ word layer }
 {
