@@ -8,7 +8,7 @@ ghost use Rattle.house_rules.specs.Offering.{inner_lawful};
 
 use crate::toward::TowardDestination;
 use mesh::{Place, Sizes, TurnOrder};
-use routing::{Chooser, Filler, RandomOffline, Task, passing};
+use routing::{Chooser, Filler, Places, RandomOffline, Task, list_passing};
 
 #[derive(Clone, Copy)]
 pub struct InnerElevators {
@@ -42,7 +42,12 @@ impl<C: Chooser> Filler<C> for InnerElevators {
     }
 
     fn fill(&self, task: Task, chooser: &mut C, bytes: &mut [u8]) {
-        let inner = passing(task.elevators, |elevator| is_inner(task.sizes, elevator));
+        let mut inner = Places::new();
+        list_passing(
+            task.elevators,
+            |elevator| is_inner(task.sizes, *elevator),
+            &mut inner,
+        );
         let elevators = if inner.is_empty() {
             task.elevators
         } else {

@@ -5,6 +5,7 @@
 mod choosing;
 mod filling;
 mod guiding;
+mod halves;
 mod optimistic;
 mod pointing;
 mod register;
@@ -19,6 +20,6 @@ pub use guiding::{Guide, Request};
 pub use optimistic::Optimistic;
 pub use pointing::Pointing;
 pub use register::ShiftRegister;
-pub use rooms::{MOST, Places, passing};
+pub use rooms::{MOST, Places, list_passing};
 pub use safe::MdSafe;
 pub use ties::RandomOffline;

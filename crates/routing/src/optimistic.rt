@@ -7,6 +7,7 @@ ghost use Rattle.routing_laws.proofs.Seeking.{open_lawful};
 
 use crate::choosing::Chooser;
 use crate::filling::{Filler, Task};
+use crate::halves::write_half;
 use mesh::{Directions, Place};
 
 #[derive(Clone, Copy)]
@@ -39,17 +40,6 @@ fn look(place: Place, elevators: &[Place]) -> Directions
     seen
 }
 
-// One half of a plane: each router is told where elevators lie.
-fn look_around(task: Task, bytes: &mut [u8])
-    requires { length bytes.old ≡ task.sizes.width * task.sizes.height }
-    ensures { bytes.new ≡ put_halves task.entry.way bytes.old (open_half task.entry.sizes.width task.entry.sizes.height task.entry.elevators.now) }
-{
-    for (i, byte) in bytes.iter_mut().enumerate() {
-        let seen = look(task.sizes.place_at(i), task.elevators);
-        *byte = task.way.with_half(*byte, seen.pack());
-    }
-}
-
 impl<C: Chooser> Filler<C> for Optimistic {
     ghost half = { λ _ t _. open_half t.width t.height t.elevators };
 
@@ -70,6 +60,6 @@ impl<C: Chooser> Filler<C> for Optimistic {
     }
 
     fn fill(&self, task: Task, chooser: &mut C, bytes: &mut [u8]) {
-        look_around(task, bytes);
+        write_half(task, |place| look(place, task.elevators).pack(), bytes);
     }
 }

@@ -10,16 +10,15 @@ pub const MOST: usize = 576;
 
 pub type Places = ArrayVec<Place, MOST>;
 
-// The places that pass a test, in their order: all that there are, up to `MOST`.
-pub fn passing<F: Fn(Place) -> bool>(places: &[Place], passes: F) -> Places
+// Lists the places that pass a test, in their order: all that there are, up to `MOST`.
+pub fn list_passing<F: Fn(&Place) -> bool>(places: &[Place], passes: F, list: &mut Places)
     requires { F.IsAlwaysCallable passes }
-    ensures { (test : Place → Bool) → ((p : Place) (b : Bool) → F.post passes p b → b ≡ test p) → result.items ≡ take 576 (filter test places.now) }
+    ensures { (test : Place → Bool) → ((p : _) (b : Bool) → F.post passes p b → b ≡ test p.now) → list.new.items ≡ take MOST (filter test places.now) }
 {
-    let mut list = Places::new();
+    list.clear();
     for place in places {
-        if passes(*place) && !list.is_full() {
+        if passes(place) && !list.is_full() {
             list.push(*place);
         }
     }
-    list
 }

@@ -1,12 +1,13 @@
 // MD-safe: every router points at the last listed of its nearest elevators, and nobody is asked.
 ghost use Rattle.std.specs.Prelude.{◌≡◌, ◌*◌, ◌<◌, ◌≤◌, length};
 ghost use Rattle.routing_laws.specs.Filling.{put_halves};
-ghost use Rattle.routing_laws.specs.Nearest.{LastNearest, pointing, safe_half};
+ghost use Rattle.routing_laws.specs.Nearest.{LastNearest, last_nearest, pointing, safe_half};
 ghost use Rattle.routing_laws.proofs.Safe.{safe_long, safe_small};
 ghost use Rattle.routing_laws.proofs.Lawful.{safe_lawful};
 
 use crate::choosing::Chooser;
 use crate::filling::{Filler, Task};
+use crate::halves::write_half;
 use crate::pointing::Pointing;
 use mesh::{Directions, Place, TurnOrder};
 
@@ -40,17 +41,12 @@ pub(crate) fn pointing(place: Place, elevator: Place) -> u8
     Directions::toward(place, elevator).pack()
 }
 
-// One half of a plane: each router points at its last nearest elevator.
-fn point(task: Task, bytes: &mut [u8])
-    requires some { 0 < length task.elevators.now }
-    requires whole { length bytes.old ≡ task.sizes.width * task.sizes.height }
-    ensures { bytes.new ≡ put_halves task.entry.way bytes.old (safe_half task.entry.sizes.width task.entry.sizes.height task.entry.elevators.now) }
+// The half-byte that points from a place at its last nearest elevator.
+fn half_byte(place: Place, elevators: &[Place]) -> u8
+    requires { 0 < length elevators.now }
+    ensures { result ≡ pointing place (last_nearest place elevators.now) }
 {
-    for (i, byte) in bytes.iter_mut().enumerate() {
-        let place = task.sizes.place_at(i);
-        let target = task.elevators[last_nearest(place, task.elevators)];
-        *byte = task.way.with_half(*byte, pointing(place, target));
-    }
+    pointing(place, elevators[last_nearest(place, elevators)])
 }
 
 impl<C: Chooser> Filler<C> for MdSafe {
@@ -73,6 +69,6 @@ impl<C: Chooser> Filler<C> for MdSafe {
     }
 
     fn fill(&self, task: Task, chooser: &mut C, bytes: &mut [u8]) {
-        point(task, bytes);
+        write_half(task, |place| half_byte(place, task.elevators), bytes);
     }
 }

@@ -14,7 +14,7 @@ ghost use Rattle.routing_laws.proofs.Lawful.{tie_lawful};
 use crate::choosing::{Chooser, Question};
 use crate::filling::{Filler, Task};
 use crate::pointing::Pointing;
-use crate::rooms::{Places, passing};
+use crate::rooms::{Places, list_passing};
 use crate::safe::pointing;
 use mesh::{Directions, LAST_SET, Place, TurnOrder};
 
@@ -35,33 +35,49 @@ fn least_distance(place: Place, elevators: &[Place]) -> u16
     least
 }
 
-// The candidates of a router: its nearest elevators, and of these only those that need directions of the last set alone
-// where there are any.
-fn candidates(order: TurnOrder, place: Place, elevators: &[Place]) -> Places
+// The candidates of a router, listed in the room lent: of its nearest elevators those that need directions of the last
+// set alone, or all where none does.
+fn candidates<'a>(
+    order: TurnOrder,
+    place: Place,
+    elevators: &[Place],
+    nearest: &'a mut Places,
+    late: &'a mut Places,
+) -> &'a [Place]
     requires some { 0 < length elevators.now }
     requires few { length elevators.now ≤ 576 }
-    ensures list { result.items ≡ candidates order place elevators.now }
-    ensures some { 0 < array_vec_len result }
+    ensures list { result.now ≡ candidates order place elevators.now }
+    ensures some { 0 < length result.now }
 {
     let least = least_distance(place, elevators);
-    let late = passing(elevators, |elevator| {
-        place.distance(elevator) == least
-            && order.lowest(Directions::toward(place, elevator)) >= LAST_SET
-    });
-    if !late.is_empty() {
-        return late;
-    }
-    passing(elevators, |elevator| place.distance(elevator) == least)
+    list_passing(
+        elevators,
+        |elevator| place.distance(*elevator) == least,
+        nearest,
+    );
+    list_passing(
+        nearest,
+        |elevator| order.lowest(Directions::toward(place, *elevator)) >= LAST_SET,
+        late,
+    );
+    if late.is_empty() { nearest } else { late }
 }
 
 // The elevator that a router points at: the chooser is asked only where two or more candidates remain.
-fn settle<C: Chooser>(order: TurnOrder, task: Task, place: Place, chooser: &mut C) -> Place
+fn settle<C: Chooser>(
+    order: TurnOrder,
+    task: Task,
+    place: Place,
+    nearest: &mut Places,
+    late: &mut Places,
+    chooser: &mut C,
+) -> Place
     requires some { 0 < length task.elevators.now }
     requires few { length task.elevators.now ≤ 576 }
     ensures settles { result ≡ target C.position C.after order task.entry.plane task.entry.way task.entry.elevators.now place chooser.old }
     ensures goes { chooser.new ≡ onward C.position C.after order task.entry.plane task.entry.way task.entry.elevators.now place chooser.old }
 {
-    let candidates = candidates(order, place, task.elevators);
+    let candidates = candidates(order, place, task.elevators, nearest, late);
     if candidates.len() < 2 {
         return candidates[0];
     }
@@ -69,7 +85,7 @@ fn settle<C: Chooser>(order: TurnOrder, task: Task, place: Place, chooser: &mut 
         plane: task.plane,
         way: task.way,
         router: place,
-        candidates: &candidates,
+        candidates,
     };
     candidates[chooser.choose(question)]
 }
@@ -82,9 +98,11 @@ fn settle_all<C: Chooser>(order: TurnOrder, task: Task, chooser: &mut C, bytes: 
     ensures writes { bytes.new ≡ put_halves task.entry.way bytes.old (tie_half C.position C.after order (task_of task.entry) chooser.old) }
     ensures goes { chooser.new ≡ tie_next C.position C.after order (task_of task.entry) chooser.old }
 {
+    let mut nearest = Places::new();
+    let mut late = Places::new();
     for (i, byte) in bytes.iter_mut().enumerate() {
         let place = task.sizes.place_at(i);
-        let elevator = settle(order, task, place, chooser);
+        let elevator = settle(order, task, place, &mut nearest, &mut late, chooser);
         *byte = task.way.with_half(*byte, pointing(place, elevator));
     }
 }

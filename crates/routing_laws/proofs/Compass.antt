@@ -1,15 +1,13 @@
 -- The compass of a place: each direction exactly where such an elevator exists.
-use Rattle.std.proofs.Common.{◌≡◌, ℕ, ◌+◌, ◌*◌, ◌<◌, Bool, ◌&&◌, eqb, ltb, List, length, get_or, take, Decides, sym, refl, subst, Contains, All}
+use Rattle.std.proofs.Common.{◌≡◌, ℕ, ◌*◌, ◌<◌, Bool, ◌&&◌, eqb, ltb, List, length, get_or, Decides, sym, refl, subst, Contains, All}
 use Rattle.std.specs.List.{HoldsAt, list_any}
 use Rattle.std.proofs.lemmas.List.Elements.{Contains-get_or, at_from_Contains}
-use Rattle.std.proofs.lemmas.List.Folds.{list_any_more}
 use Rattle.std.proofs.lemmas.Bool.Decides.{Decides-and, Decides-by_or, Decides-eqb, Decides-like, Decides-ltb}
 use Rattle.mesh.specs.declared.grid.Place.{Place}
-use Rattle.mesh.specs.Compass.{joined}
 use Rattle.mesh.specs.Halves.{pack}
 use Rattle.mesh.proofs.Masks.{pack_small}
 use Rattle.routing_laws.specs.Elevators.{origin}
-use Rattle.routing_laws.specs.Optimistic.{Compass, compass, open_half, sighted}
+use Rattle.routing_laws.specs.Optimistic.{Compass, compass, open_half}
 use Rattle.routing_laws.proofs.Safe.{places_long, places_small}
 
 -- some place passes a test exactly where one exists
@@ -26,15 +24,6 @@ compass_is es p = record {
   east_is = any_decides (λ e. ltb p.x e.x) (λ e. p.x < e.x) (λ e. Decides-ltb p.x e.x) es;
   south_is = any_decides (λ e. eqb e.x p.x && ltb e.y p.y) (λ e. (e.x ≡ p.x) × (e.y < p.y)) (λ e. Decides-and _ _ (Decides-eqb e.x p.x) (Decides-ltb e.y p.y)) es;
   west_is = any_decides (λ e. ltb e.x p.x) (λ e. e.x < p.x) (λ e. Decides-ltb e.x p.x) es;
-}
-
--- a loop that looks at one elevator after the other
-pub compass_more : (es : List Place) (p : Place) (i : ℕ) → i < length es → compass (take (i + 1) es) p ≡ joined (compass (take i es) p) (sighted p (get_or es i origin))
-compass_more es p i l = λ k. record {
-  north = list_any_more (λ e. eqb e.x p.x && ltb p.y e.y) es i origin l k;
-  east = list_any_more (λ e. ltb p.x e.x) es i origin l k;
-  south = list_any_more (λ e. eqb e.x p.x && ltb e.y p.y) es i origin l k;
-  west = list_any_more (λ e. ltb e.x p.x) es i origin l k;
 }
 
 pub open_long : (w h : ℕ) (es : List Place) → length (open_half w h es) ≡ w * h

@@ -48,10 +48,6 @@ pub filled_alone : {C : Type 0} (f : Place → ℕ) (ps : List Place) (c : C) �
 filled_alone f [] c = refl
 filled_alone f (p ∷ ps) c = ap (λ vs. f p ∷ vs) (filled_alone f ps c)
 
-pub ending_alone : {C : Type 0} (ps : List Place) (c : C) → ending (λ _ d. d) ps c ≡ c
-ending_alone [] c = refl
-ending_alone (p ∷ ps) c = ending_alone ps c
-
 -- one byte after its half is replaced
 pub put_halves_at : (way : Way) (bytes halves : List ℕ) (i : ℕ) → i < length bytes → length bytes ≡ length halves → get_or (put_halves way bytes halves) i 0 ≡ with_half way (get_or bytes i 0) (get_or halves i 0)
 put_halves_at way [] halves i l e = absurd (omega arith)

@@ -1,10 +1,10 @@
 -- Planning gap by gap: what the bytes hold after each gap, and at the end.
-use Rattle.std.proofs.Common.{◌≡◌, ℕ, zero, suc, ◌+◌, ◌*◌, ◌/◌, ◌%◌, ◌<◌, ◌≤◌, cond, ltb, List, ◌++◌, map, length, get_or, drop, replicate, sym, refl, ap, ◌∙◌, ⊎_elim, add-one, arith, length-append, length-drop, All}
-use lib.ListN.{length-map, length-replicate}
+use Rattle.std.proofs.Common.{◌≡◌, ℕ, zero, suc, ◌+◌, ◌*◌, ◌/◌, ◌%◌, ◌<◌, ◌≤◌, cond, ltb, List, ◌++◌, map, length, get_or, drop, sym, refl, ap, ◌∙◌, ⊎_elim, add-one, arith, length-append, length-drop, All}
+use lib.ListN.{length-map}
 use Rattle.std.proofs.lemmas.Nat.{div-add-mod', div_below, div-mul-add, mod_below, mod-mul-add}
 use Rattle.std.proofs.lemmas.List.FromFn.{fill_by_all, get_or-map-range_with_len, length-map-range_with_len}
 use Rattle.std.proofs.lemmas.List.Elements.{All-get_or}
-use Rattle.std.proofs.lemmas.List.{ext_get_or, get_or_append_left, get_or-drop, get_or-map, get_or_past, get_or-replicate, get_or-take, length-take-le}
+use Rattle.std.proofs.lemmas.List.{ext_get_or, get_or_append_left, get_or-drop, get_or-map, get_or_past, get_or-take, length-take-le}
 use Rattle.std.proofs.lemmas.Bool.{cases_eq, cases_lt, cond_both, cond-false, cond-true, le-ltb, lt-ltb}
 use Rattle.std.proofs.lemmas.Bool.Decides.{nat_tests}
 use Rattle.mesh.specs.declared.compass.Way.{Way}
@@ -70,16 +70,6 @@ module _ {C : Type 0} (j : Job C) (c : C) where
 
   abbrev down_at : ℕ → ℕ → ℕ
   down_at g i = get_or (j.half (down_task j g) (between j c g)) i 0
-
-  -- with no gap planned
-  pub holds_none : (bytes : List ℕ) → bytes ≡ replicate (routers j) 0 → Holds j c 0 bytes
-  holds_none bytes blank = record {
-    whole = ap length blank ∙ length-replicate (routers j) 0;
-    each = λ z i l m.
-        ap (λ b. get_or b (z * area j + i) 0) blank
-        ∙ get_or-replicate (routers j) (z * area j + i) 0 0 (omega (arith, plane_order (area j) z j.sizes.planes l))
-        ∙ sym (byte_none up_at down_at z i);
-  }
 
   -- with all gaps planned
   pub holds_all : (bytes : List ℕ) → Holds j c (gaps j) bytes → 0 < area j → bytes ≡ planned j c

@@ -1,37 +1,55 @@
-use Rattle.std.proofs.Common.{rules, ◌≡◌, true, false, length, filter, sym, ◌∙◌, arith}
+use Rattle.std.proofs.Common.{rules, ◌≡◌, ◌≤◌, Bool, true, false, not, leb, length, filter, refl, sym, ap, ◌∙◌, arith}
 use Rattle.std.proofs.lemmas.Bool.{eqb-false, eqb-true}
+use Rattle.std.proofs.lemmas.List.Filters.{length-filter_both}
+use Rattle.mesh.specs.declared.grid.Place.{Place}
+use Rattle.mesh.specs.Compass.{toward}
+use Rattle.mesh.specs.Orders.{lowest}
 use Rattle.routing_laws.specs.Ties.{Candidates, candidate, candidates}
 use Rattle.routing_laws.proofs.Ties.{with_late, without_late}
-use Rattle.routing.proofs.Kept.{all_kept}
+use Rattle.routing.proofs.Kept.{all_kept, kept_twice}
 use Rattle.routing.proofs.ties.candidates.Goals as goal
-use Rattle.routing.proofs.ties.candidates.Goals.{After-passing, After-passing-late}
+use Rattle.routing.proofs.ties.candidates.Goals.{After-list_passing, After-list_passing-2}
 
--- the elevators that need only directions of the last set, and all that are nearest
-late : (c : After-passing-late) → c.passing-late.result.items ≡ filter (candidate c.args.order c.args.place c.least_distance-least.result true) c.args.elevators.now
-late c =
-    let test = candidate c.args.order c.args.place c.least_distance-least.result true in
-    c.passing-late.ensures test (λ e b h. search rules) ∙ all_kept test 576 c.args.elevators.now c.requires.few
-
-near : (c : After-passing) → c.passing.result.items ≡ filter (candidate c.args.order c.args.place c.least_distance-least.result false) c.args.elevators.now
+-- the nearest elevators
+near : (c : After-list_passing) → c.list_passing.new.list.items ≡ filter (candidate c.args.order c.args.place c.least_distance-least.result false) c.args.elevators.now
 near c =
     let test = candidate c.args.order c.args.place c.least_distance-least.result false in
-    c.passing.ensures test (λ e b h. search rules) ∙ all_kept test 576 c.args.elevators.now c.requires.few
+    c.list_passing.ensures test (λ e b h. search rules) ∙ all_kept test 576 c.args.elevators.now c.requires.few
 
-pub returns-then-not-is_empty-clause-list : goal.returns-then-not-is_empty-clause-list
-returns-then-not-is_empty-clause-list c =
-    let listed = late (goal.at.returns-then-not-is_empty-clause-list c).After-passing-late in
-    let none = eqb-false (length c.passing-late.result.items) 0 (sym c.is_empty.ensures ∙ c.if-not-is_empty.true) in
-    (with_late c.args.order c.args.place c.args.elevators.now c.least_distance-least.result c.least_distance-least.ensures c.requires.some c.passing-late.result.items listed (omega arith)).0
+-- those of them that need only directions of the last set
+late : (c : After-list_passing-2) → c.list_passing.new.list.items ≡ filter (candidate c.args.order c.args.place c.least_distance-least.result false) c.args.elevators.now
+    → c.list_passing-2.new.list.items ≡ filter (candidate c.args.order c.args.place c.least_distance-least.result true) c.args.elevators.now
+late c listed =
+    let es = c.args.elevators.now in
+    let near_test = candidate c.args.order c.args.place c.least_distance-least.result false in
+    let test : Place → Bool = λ e. leb 1 (lowest c.args.order (toward c.args.place e)) in
+    let all = c.deref.ensures.0 ∙ listed in
+    let few : length c.deref.result.now ≤ 576 = omega (arith, c.requires.few, ap length all, length-filter_both near_test (λ p. not (near_test p)) (λ _. refl) es) in
+    c.list_passing-2.ensures test (λ e b h. search rules) ∙ all_kept test 576 c.deref.result.now few ∙ ap (filter test) all ∙ kept_twice near_test test es
 
--- no elevator needs only directions of the last set
-others : (c : After-passing) → c.passing-late.result.items ≡ filter (candidate c.args.order c.args.place c.least_distance-least.result true) c.args.elevators.now
-    → (c.passing.result.items ≡ candidates c.args.order c.args.place c.args.elevators.now) × Candidates c.args.order c.args.place c.args.elevators.now c.passing.result.items
-others c listed =
-    let none = eqb-true (length c.passing-late.result.items) 0 (sym c.is_empty.ensures ∙ c.if-not-is_empty.false) in
-    without_late c.args.order c.args.place c.args.elevators.now c.least_distance-least.result c.least_distance-least.ensures c.requires.some c.passing-late.result.items c.passing.result.items listed none (near c)
+-- where there are none, all the nearest are candidates
+others : (c : goal.After-deref-then-is_empty) (listed : c.list_passing.new.list.items ≡ filter (candidate c.args.order c.args.place c.least_distance-least.result false) c.args.elevators.now)
+    → c.list_passing-2.new.list.items ≡ filter (candidate c.args.order c.args.place c.least_distance-least.result true) c.args.elevators.now
+    → (c.deref-then-is_empty.result.now ≡ candidates c.args.order c.args.place c.args.elevators.now) × Candidates c.args.order c.args.place c.args.elevators.now c.deref-then-is_empty.result.now
+others c listed lates =
+    let none = eqb-true (length c.list_passing-2.new.list.items) 0 (sym c.is_empty.ensures ∙ c.if-is_empty.true) in
+    without_late c.args.order c.args.place c.args.elevators.now c.least_distance-least.result c.least_distance-least.ensures c.requires.some c.list_passing-2.new.list.items c.deref-then-is_empty.result.now lates none (c.deref-then-is_empty.ensures.0 ∙ listed)
 
-pub returns-clause-list : goal.returns-clause-list
-returns-clause-list c = (others c (late (goal.at.returns-clause-list c).After-passing-late)).0
+pub returns-then-is_empty-clause-list : goal.returns-then-is_empty-clause-list
+returns-then-is_empty-clause-list c =
+    let at = goal.at.returns-then-is_empty-clause-list c in
+    let listed = near at.After-list_passing in
+    (others c listed (late at.After-list_passing-2 listed)).0
 
-pub returns-clause-some : goal.returns-clause-some
-returns-clause-some c = (others c (late (goal.at.returns-clause-some c).After-passing-late)).1.some
+pub returns-then-is_empty-clause-some : goal.returns-then-is_empty-clause-some
+returns-then-is_empty-clause-some c =
+    let at = goal.at.returns-then-is_empty-clause-some c in
+    let listed = near at.After-list_passing in
+    (others c listed (late at.After-list_passing-2 listed)).1.some
+
+pub returns-else-is_empty-clause-list : goal.returns-else-is_empty-clause-list
+returns-else-is_empty-clause-list c =
+    let at = goal.at.returns-else-is_empty-clause-list c in
+    let some = eqb-false (length c.list_passing-2.new.list.items) 0 (sym c.is_empty.ensures ∙ c.if-is_empty.false) in
+    c.deref-else-is_empty.ensures.0
+    ∙ (with_late c.args.order c.args.place c.args.elevators.now c.least_distance-least.result c.least_distance-least.ensures c.requires.some c.list_passing-2.new.list.items (late at.After-list_passing-2 (near at.After-list_passing)) (omega arith)).0

@@ -18,8 +18,8 @@ offers g c =
     let s = c.args.task.sizes in
     let es = c.args.task.elevators.now in
     let test = inner s.width s.height in
-    let list = c.passing-inner.result.items in
-    let kept = c.passing-inner.ensures test (λ e b h. search rules) ∙ all_kept test 576 es (omega (arith, c.requires.few, mul-le s.width s.height 24 24 s.few_columns s.few_rows)) in
+    let list = c.list_passing.new.list.items in
+    let kept = c.list_passing.ensures test (λ e b h. search rules) ∙ all_kept test 576 es (omega (arith, c.requires.few, mul-le s.width s.height 24 24 s.few_columns s.few_rows)) in
     elim c.if-is_empty.branch [
       | then-is_empty w ↦
           let none = eqb-true (length list) 0 (sym c.is_empty.ensures ∙ w.if-is_empty.true) in

@@ -1,15 +1,15 @@
-use Rattle.std.proofs.Common.{length, get_or, sym, ap, ◌∙◌, arith}
+use Rattle.std.proofs.Common.{length, sym, ap, ◌∙◌, arith}
 use Rattle.std.proofs.lemmas.Bool.{eqb-false, eqb-true}
 use Rattle.routing_laws.specs.Elevators.{origin}
 use Rattle.routing.proofs.Kept.{one_kept, one_left, one_over}
-use Rattle.routing.proofs.rooms.passing.Goals as goal
-use Rattle.routing.proofs.rooms.passing.Goals.{then-passes+then-not-is_full, else-passes, else-passes-via-then-passes+else-not-is_full, else-passes-via-else-passes}
+use Rattle.routing.proofs.rooms.list_passing.Goals as goal
+use Rattle.routing.proofs.rooms.list_passing.Goals.{then-passes+then-not-is_full, else-passes, else-passes-via-then-passes+else-not-is_full, else-passes-via-else-passes}
 
 pub loop-place-preserved : goal.loop-place-preserved
 loop-place-preserved g c = λ test says.
     let i = c.loop-place.place-index in
     let places = c.args.places.now in
-    let is = sym (says (get_or places i origin) c.passes.result c.passes.ensures) in
+    let is = sym (says _ c.passes.result c.passes.ensures) in
     let kept = c.loop-place.list in
     let before = c.loop-place.invariant test says in
     let inside = c.loop-place-test.true in

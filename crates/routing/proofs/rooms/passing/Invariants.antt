@@ -1,6 +1,0 @@
-use Rattle.std.proofs.Common.{◌≡◌, Bool, take, filter}
-use Rattle.mesh.specs.declared.grid.Place.{Place}
-use Rattle.routing.proofs.rooms.passing.Given as goal
-
-abbrev pub invariant-loop-place : goal.invariant-loop-place
-invariant-loop-place g l = (test : Place → Bool) → ((p : Place) (b : Bool) → goal.F-post g l.passes p b → b ≡ test p) → l.list.items ≡ take 576 (filter test (take l.place-index l.places))
