@@ -1,6 +1,5 @@
 -- What an accepted call has passed, and what it takes to be accepted.
-use Rattle.std.proofs.Common.{◌≡◌, ℕ, ◌<◌, Bool, true, false, eqb, ltb, List, [], ◌∷◌, Some, None, Option, sym, refl, arith}
-use Rattle.std.specs.List.{AllByRecursion}
+use Rattle.std.proofs.Common.{◌≡◌, ℕ, ◌<◌, Bool, true, false, eqb, ltb, List, [], ◌∷◌, Some, None, Option, sym, refl, arith, Ok, Err}
 use Rattle.std.proofs.lemmas.Bool.{and_from, and_parts, eqb-true, lt-ltb, ltb-true, not-false, not_from_true, true≢false}
 use Rattle.mesh.specs.declared.compass.Directions.{Directions}
 use Rattle.mesh.specs.declared.grid.Router.{Router}
@@ -8,21 +7,26 @@ use Rattle.mesh.specs.declared.refusals.Refusal.{Refusal}
 use Rattle.mesh.specs.declared.stack.Sizes.{Sizes}
 use Rattle.routing_laws.specs.Chains.{Told}
 use Rattle.channel_laws.specs.declared.buffers.Buffer.TheVariants.{Local}
-use Rattle.channel_laws.specs.declared.calls.Answer.{Answer}
-use Rattle.channel_laws.specs.declared.calls.Answer.TheVariants.{Refused}
+use Rattle.channel_laws.specs.declared.calls.Done.{Done}
 use Rattle.channel_laws.specs.Buffers.{buffer_of, port_of}
-use Rattle.channel_laws.specs.Table.{InStack, State, in_stack, is_empty, record_at}
+use Rattle.mesh.specs.Layout.{in_stack}
+use Rattle.channel_laws.specs.Table.{InStack, State, is_empty, record_at}
 use Rattle.channel_laws.specs.Ports.{has_port, leads_out, neighbour, permitted_ports, same_router}
 use Rattle.channel_laws.specs.Calls.{Outcome, collect_reasons, collect_refusal, damaged, decided, entered_by, first, inject_reasons, inject_refusal, move_reasons, move_refusal, short}
 use Rattle.channel_laws.specs.Runs.{accepted}
 
+-- none of the reasons holds
+abbrev Free : List (Bool × Refusal) → Type 0
+Free [] = Unit {0}
+Free (reason ∷ rest) = (reason.0 ≡ false) × Free rest
+
 -- nothing is refused exactly when no reason holds
-none_held : (xs : List (Bool × Refusal)) → first xs ≡ None → AllByRecursion (λ t. t.0 ≡ false) xs
+none_held : (xs : List (Bool × Refusal)) → first xs ≡ None → Free xs
 none_held [] e = tt
 none_held ((true, x) ∷ xs) e = let z : ◌≡◌ {A = ℕ} 0 1 = cc in absurd (omega arith)
 none_held ((false, x) ∷ xs) e = (refl, none_held xs e)
 
-none_holds : (xs : List (Bool × Refusal)) → AllByRecursion (λ t. t.0 ≡ false) xs → first xs ≡ None
+none_holds : (xs : List (Bool × Refusal)) → Free xs → first xs ≡ None
 none_holds [] a = refl
 none_holds ((true, x) ∷ xs) a = absurd (true≢false a.0)
 none_holds ((false, x) ∷ xs) a = none_holds xs a.1
@@ -45,18 +49,18 @@ router_same r q e =
     λ i. record { x = eqb-true r.x q.x a.0 i; y = eqb-true r.y q.y b.0 i; z = eqb-true r.z q.z b.1 i }
 
 -- an outcome is what was to be done, or a refusal
-pub decided_both : (P : Outcome → Type 0) (o : Option Refusal) (done : Answer) (new old : State) → (o ≡ None → P record { answer = done; after = new })
-    → ((x : Refusal) → P record { answer = Refused x; after = old }) → P (decided o done new old)
+pub decided_both : (P : Outcome → Type 0) (o : Option Refusal) (done : Done) (new old : State) → (o ≡ None → P record { answer = Ok done; after = new })
+    → ((x : Refusal) → P record { answer = Err x; after = old }) → P (decided o done new old)
 decided_both P None done new old did not_done = did refl
 decided_both P (Some x) done new old did not_done = not_done x
 
-pub accepted_none : (o : Option Refusal) (done : Answer) (new old : State) → accepted (decided o done new old).answer ≡ true → o ≡ None
+pub accepted_none : (o : Option Refusal) (done : Done) (new old : State) → accepted (decided o done new old).answer ≡ true → o ≡ None
 accepted_none None done new old e = refl
 accepted_none (Some x) done new old e = absurd (true≢false (sym e))
 
-pub none_accepted : (o : Option Refusal) (done : Answer) (new old : State) → accepted done ≡ true → o ≡ None → accepted (decided o done new old).answer ≡ true
-none_accepted None done new old a e = a
-none_accepted (Some x) done new old a e = let z : ◌≡◌ {A = ℕ} 0 1 = cc in absurd (omega arith)
+pub none_accepted : (o : Option Refusal) (done : Done) (new old : State) → o ≡ None → accepted (decided o done new old).answer ≡ true
+none_accepted None done new old e = refl
+none_accepted (Some x) done new old e = let z : ◌≡◌ {A = ℕ} 0 1 = cc in absurd (omega arith)
 
 -- an accepted injection
 pub record CanInject (s : State) (source destination : Router) : Type 0 where

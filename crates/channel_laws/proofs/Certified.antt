@@ -1,6 +1,5 @@
 -- The certificate holds after every list of calls.
-use Rattle.std.proofs.Common.{◌≡◌, ℕ, zero, suc, ◌-◌, ◌*◌, ◌<◌, ◌≤◌, Bool, true, false, ◌||◌, ltb, ◌⊎◌, List, [], ◌∷◌, length, Some, None, Option, sym, refl, ap, ◌∙◌, subst, inl, inr, append-nil, arith}
-use Rattle.std.specs.List.{ContainsAt as Has}
+use Rattle.std.proofs.Common.{◌≡◌, ℕ, zero, suc, ◌-◌, ◌*◌, ◌<◌, ◌≤◌, Bool, true, false, ◌||◌, ltb, ◌⊎◌, List, [], ◌∷◌, length, Some, None, Option, sym, refl, ap, ◌∙◌, subst, inl, inr, append-nil, arith, Ok, Contains}
 use Rattle.std.proofs.lemmas.Bool.{cond-false, cond-true, false≢true, le-ltb, ltb-false, or_from, or_parts}
 use Rattle.mesh.specs.declared.compass.Directions.{Directions}
 use Rattle.mesh.specs.declared.grid.Router.{Router}
@@ -12,12 +11,13 @@ use Rattle.channel_laws.proofs.Crossing.{at_elevator}
 use Rattle.channel_laws.specs.Ports.{gap_of, has_port, permitted_ports}
 use Rattle.channel_laws.specs.declared.buffers.Port.TheVariants.{Vertical}
 use Rattle.channel_laws.specs.declared.buffers.Buffer.{Buffer}
-use Rattle.channel_laws.specs.declared.calls.Answer.TheVariants.{Collected, Moved}
+use Rattle.channel_laws.specs.declared.calls.Done.TheVariants.{Collected, Moved}
 use Rattle.channel_laws.specs.declared.calls.Call.{Call}
 use Rattle.channel_laws.specs.declared.calls.Call.TheVariants.{Inject, Move, Collect}
 use Rattle.channel_laws.specs.declared.records.Record.{Record}
 use Rattle.channel_laws.specs.Buffers.{buffer_of, port_of}
-use Rattle.channel_laws.specs.Table.{InStack, State, is_empty, kept, packets, table_size, with_table, place_of}
+use Rattle.mesh.specs.Layout.{place_of}
+use Rattle.channel_laws.specs.Table.{InStack, State, is_empty, kept, packets, table_size, with_table}
 use Rattle.channel_laws.specs.Calls.{cleared, collect_refusal, decided, move_refusal, moved, outcome, short, short_table, taken}
 use Rattle.channel_laws.specs.Runs.{Event, Handed, accepted, event, events, last, sooner, state_after, works}
 use Rattle.channel_laws.specs.Certificate.{Certificate, Certified, Followed, Guided, most_moves}
@@ -30,27 +30,27 @@ use Rattle.channel_laws.proofs.Standing.{holds_one, never_stuck}
 use Rattle.channel_laws.proofs.Following.{Placed, one_place, placed_run}
 
 -- a packet that a record keeps is the record, and it is not empty
-only_one : (y x : Record) → Has (y ∷ []) x → y ≡ x
-only_one y x (zero, l, is) = is x
+only_one : (y x : Record) → Contains (y ∷ []) x → y ≡ x
+only_one y x (zero, l, is) = is
 only_one y x (suc k, l, is) = absurd (omega arith)
 
-kept_only : (y x : Record) → Has (kept y) x → (is_empty y ≡ false) × (y ≡ x)
+kept_only : (y x : Record) → Contains (kept y) x → (is_empty y ≡ false) × (y ≡ x)
 kept_only y x h = pick (is_empty y) refl
   where
     pick : (b : Bool) → is_empty y ≡ b → (is_empty y ≡ false) × (y ≡ x)
-    pick true e = let none = subst (λ xs. Has xs x) (cond-true (is_empty y) [] (y ∷ []) e) h in absurd (omega (arith, none.1))
-    pick false e = (e, only_one y x (subst (λ xs. Has xs x) (cond-false (is_empty y) [] (y ∷ []) e) h))
+    pick true e = let none = subst (λ xs. Contains xs x) (cond-true (is_empty y) [] (y ∷ []) e) h in absurd (omega (arith, none.1))
+    pick false e = (e, only_one y x (subst (λ xs. Contains xs x) (cond-false (is_empty y) [] (y ∷ []) e) h))
 
-keeps_it : (y : Record) → is_empty y ≡ false → Has (kept y) y
-keeps_it y e = subst (λ xs. Has xs y) (sym (cond-false (is_empty y) [] (y ∷ []) e)) (0, omega arith, λ _. refl)
+keeps_it : (y : Record) → is_empty y ≡ false → Contains (kept y) y
+keeps_it y e = subst (λ xs. Contains xs y) (sym (cond-false (is_empty y) [] (y ∷ []) e)) (0, omega arith, refl)
 
 -- what a collect hands out
-handed : (o : Option Refusal) (y x : Record) (new old : State) → (decided o (Collected y) new old).answer ≡ Collected x → (o ≡ None) × (y ≡ x)
+handed : (o : Option Refusal) (y x : Record) (new old : State) → (decided o (Collected y) new old).answer ≡ Ok (Collected x) → (o ≡ None) × (y ≡ x)
 handed None y x new old e = (refl, cc)
 handed (Some z) y x new old e = let clash : ◌≡◌ {A = ℕ} 0 1 = cc in absurd (omega arith)
 
 -- the latest of the events handed it out, or one before
-handed_cases : {e : Event} {es before : List Event} {r : Router} {n : ℕ} {x : Record} → Handed (e ∷ es) r n x before → ((e ≡ event (Collect r n) (Collected x)) × (es ≡ before)) ⊎ Handed es r n x before
+handed_cases : {e : Event} {es before : List Event} {r : Router} {n : ℕ} {x : Record} → Handed (e ∷ es) r n x before → ((e ≡ event (Collect r n) (Ok (Collected x))) × (es ≡ before)) ⊎ Handed es r n x before
 handed_cases last = inl (refl, refl)
 handed_cases (sooner h) = inr h
 
@@ -77,13 +77,13 @@ module _ (reply : Told → Directions) (s : State) (g : Guided reply s) (fits : 
       let c = can_collect (with_table s t) r n (accepted_none (collect_refusal (with_table s t) r n) (Collected (at s.sizes t r (buffer_of n))) (taken (with_table s t) r (buffer_of n)) (with_table s t) a) in
       holds_one reply s g fits t past good enough r (buffer_of n) c.at c.full
 
-  hands : (r : Router) (n : ℕ) (x : Record) → (outcome reply (with_table s t) (Collect r n)).answer ≡ Collected x → CanCollect (with_table s t) r n × (at s.sizes t r (buffer_of n) ≡ x)
+  hands : (r : Router) (n : ℕ) (x : Record) → (outcome reply (with_table s t) (Collect r n)).answer ≡ Ok (Collected x) → CanCollect (with_table s t) r n × (at s.sizes t r (buffer_of n) ≡ x)
   hands r n x e =
       let both = handed (collect_refusal (with_table s t) r n) (at s.sizes t r (buffer_of n)) x (taken (with_table s t) r (buffer_of n)) (with_table s t) e in
       (can_collect (with_table s t) r n both.0, both.1)
 
   -- what a collect would hand out now
-  next_handed : (r : Router) (n : ℕ) (x : Record) → (outcome reply (with_table s t) (Collect r n)).answer ≡ Collected x → Gone s past r n x
+  next_handed : (r : Router) (n : ℕ) (x : Record) → (outcome reply (with_table s t) (Collect r n)).answer ≡ Ok (Collected x) → Gone s past r n x
   next_handed r n x e =
       let c = hands r n x e in
       (followed r (buffer_of n) x c.0.at c.0.full c.1, router_same r (at s.sizes t r (buffer_of n)).destination c.0.home ∙ ap (λ y. y.destination) c.1)
@@ -153,13 +153,13 @@ module _ (reply : Told → Directions) (s : State) (g : Guided reply s) (enough 
   all_gone (c ∷ earlier) r n x before h = pick (all_gone earlier r n x before) (handed_cases h)
     where
       pick : (Handed (events reply (cleared s) earlier) r n x before → Gone s before r n x)
-          → ((event c (outcome reply (state_after reply (cleared s) earlier) c).answer ≡ event (Collect r n) (Collected x)) × (events reply (cleared s) earlier ≡ before)) ⊎ Handed (events reply (cleared s) earlier) r n x before
+          → ((event c (outcome reply (state_after reply (cleared s) earlier) c).answer ≡ event (Collect r n) (Ok (Collected x))) × (events reply (cleared s) earlier ≡ before)) ⊎ Handed (events reply (cleared s) earlier) r n x before
           → Gone s before r n x
       pick rest (inr h) = rest h
       pick rest (inl (e, f)) =
           let a = after earlier in
-          let answer : (outcome reply (state_after reply (cleared s) earlier) (Collect r n)).answer ≡ Collected x = subst (λ v. (outcome reply (state_after reply (cleared s) earlier) v).answer ≡ Collected x) (ap (λ v. v.call) e) (ap (λ v. v.answer) e) in
-          let now : (outcome reply (with_table s a.table) (Collect r n)).answer ≡ Collected x = subst (λ v. (outcome reply v (Collect r n)).answer ≡ Collected x) a.is answer in
+          let answer : (outcome reply (state_after reply (cleared s) earlier) (Collect r n)).answer ≡ Ok (Collected x) = subst (λ v. (outcome reply (state_after reply (cleared s) earlier) v).answer ≡ Ok (Collected x)) (ap (λ v. v.call) e) (ap (λ v. v.answer) e) in
+          let now : (outcome reply (with_table s a.table) (Collect r n)).answer ≡ Ok (Collected x) = subst (λ v. (outcome reply v (Collect r n)).answer ≡ Ok (Collected x)) a.is answer in
           subst (λ v. Gone s v r n x) f (next_handed reply s g bytes_fit a.table (events reply (cleared s) earlier) a.good a.long a.placed r n x now)
 
   all_certified : (calls : List Call) → Certificate reply (state_after reply (cleared s) calls) (events reply (cleared s) calls)

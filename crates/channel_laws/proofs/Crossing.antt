@@ -9,7 +9,8 @@ use Rattle.routing_laws.specs.Chains.{Told}
 use Rattle.channel_laws.specs.declared.buffers.Buffer.{Buffer}
 use Rattle.channel_laws.specs.declared.buffers.Port.TheVariants.{Vertical}
 use Rattle.channel_laws.specs.declared.records.Record.{Record}
-use Rattle.channel_laws.specs.Ports.{bound_ports, has_port, is_elevator, nowhere, permitted_ports, planar_only, same_router, seeking_ports, way_only, way_to}
+use Rattle.mesh.specs.Compass.{nowhere}
+use Rattle.channel_laws.specs.Ports.{bound_ports, has_port, is_elevator, permitted_ports, planar_only, same_router, seeking_ports, way_only, way_to}
 use Rattle.channel_laws.specs.Table.{State}
 
 no_vertical : (way : Way) (ds : Directions) → has_port (Vertical way) (planar_only ds) ≡ true → ⊥

@@ -1,5 +1,5 @@
 -- Packets are followed to one place each, and there they are.
-use Rattle.std.proofs.Common.{◌≡◌, ℕ, ◌+◌, ◌*◌, ◌<◌, ◌≤◌, true, false, cond, ◌&&◌, List, [], ◌∷◌, length, get_or, set, sym, refl, ap, ◌∙◌, subst, append-nil, arith, length-set}
+use Rattle.std.proofs.Common.{◌≡◌, ℕ, ◌+◌, ◌*◌, ◌<◌, ◌≤◌, true, false, cond, ◌&&◌, List, [], ◌∷◌, length, get_or, set, sym, refl, ap, ◌∙◌, subst, append-nil, arith, length-set, Ok, Err}
 use Rattle.std.proofs.lemmas.List.{get_or-set_other}
 use Rattle.std.proofs.lemmas.List.Sums.{sum_by-cons}
 use Rattle.std.proofs.lemmas.Bool.{both_ways, cond-true, false≢true}
@@ -10,7 +10,7 @@ use Rattle.mesh.specs.declared.stack.Sizes.{Sizes}
 use Rattle.routing_laws.specs.Chains.{Told}
 use Rattle.channel_laws.specs.declared.buffers.Buffer.{Buffer}
 use Rattle.channel_laws.specs.declared.buffers.Buffer.TheVariants.{Local}
-use Rattle.channel_laws.specs.declared.calls.Answer.TheVariants.{Injected, Moved, Collected, Refused}
+use Rattle.channel_laws.specs.declared.calls.Done.TheVariants.{Injected, Moved, Collected}
 use Rattle.channel_laws.specs.declared.calls.Call.{Call}
 use Rattle.channel_laws.specs.declared.calls.Call.TheVariants.{Inject, Move, Collect}
 use Rattle.channel_laws.specs.declared.records.Record.{Record}
@@ -70,13 +70,13 @@ module _ (reply : Told → Directions) (s : State) (g : Guided reply s) (fits : 
     still_holds : (r : Router) (b : Buffer) (p : Packet) (n i : ℕ) (x : Record) → (record_number s.sizes r b ≡ i → ⊥) → Holds s.sizes r p n (at s.sizes t r b) → Holds s.sizes r p n (at s.sizes (set t i x) r b)
     still_holds r b p n i x ne h = subst (Holds s.sizes r p n) (sym (get_or-set_other t i (record_number s.sizes r b) x empty ne)) h
 
-    placed_refused : (es : List Event) (c : Call) (x : Refusal) → Placed t es → (k : ℕ) (p : Packet) (r : Router) (b : Buffer) (n : ℕ) → Sits (event c (Refused x) ∷ es) k p r b n → Holds s.sizes r p n (at s.sizes t r b)
+    placed_refused : (es : List Event) (c : Call) (x : Refusal) → Placed t es → (k : ℕ) (p : Packet) (r : Router) (b : Buffer) (n : ℕ) → Sits (event c (Err x) ∷ es) k p r b n → Holds s.sizes r p n (at s.sizes t r b)
     placed_refused es c x q k p r b n (enters e f) = absurd (false≢true e)
     placed_refused es c x q k p r b n (carries i m e z) = absurd (false≢true e)
     placed_refused es c x q k p r b n (stays ne z) = q k p r b n z
 
     placed_injected : (es : List Event) (source destination : Router) (tag : ℕ) → table_size s.sizes ≤ length t → CanInject (with_table s t) source destination → Placed t es
-        → (k : ℕ) (p : Packet) (r : Router) (b : Buffer) (n : ℕ) → Sits (event (Inject source destination tag) Injected ∷ es) k p r b n
+        → (k : ℕ) (p : Packet) (r : Router) (b : Buffer) (n : ℕ) → Sits (event (Inject source destination tag) (Ok Injected) ∷ es) k p r b n
         → Holds s.sizes r p n (at s.sizes (set t (record_number s.sizes source Local) (fresh source destination tag)) r b)
     placed_injected es source destination tag long c q k p r b n (enters e f) =
         subst (Holds s.sizes source (packet source destination tag) 0) (sym (at_same s.sizes t long source Local (fresh source destination tag) c.from)) (c.from, refl, refl, refl)
@@ -89,7 +89,7 @@ module _ (reply : Told → Directions) (s : State) (g : Guided reply s) (fits : 
     not_taken r q b c i j ne e = let same = (numbered s.sizes).apart r q b c i j e in ne (sym same.0, sym same.1)
 
     placed_collected : (es : List Event) (q : Router) (m : ℕ) (x : Record) → InStack s.sizes q → Placed t es
-        → (k : ℕ) (p : Packet) (r : Router) (b : Buffer) (n : ℕ) → Sits (event (Collect q m) (Collected x) ∷ es) k p r b n
+        → (k : ℕ) (p : Packet) (r : Router) (b : Buffer) (n : ℕ) → Sits (event (Collect q m) (Ok (Collected x)) ∷ es) k p r b n
         → Holds s.sizes r p n (at s.sizes (set t (record_number s.sizes q (buffer_of m)) empty) r b)
     placed_collected es q m x i placed k p r b n (stays ne z) =
         let h = placed k p r b n z in
@@ -116,7 +116,7 @@ module _ (reply : Told → Directions) (s : State) (g : Guided reply s) (fits : 
         subst (λ v. Holds s.sizes there p v (at s.sizes (set middle (record_number s.sizes there into) (carried moving)) there (entered (port_of m) (network p.source p.destination)))) (ap (λ v. v + 1) f)
         (subst (λ v. Holds s.sizes there v (moving.moves + 1) (at s.sizes (set middle (record_number s.sizes there into) (carried moving)) there (entered (port_of m) (network v.source v.destination)))) e held)
 
-    placed_moved : (es : List Event) → Placed t es → (k : ℕ) (p : Packet) (r : Router) (b : Buffer) (n : ℕ) → Sits (event (Move q i m) Moved ∷ es) k p r b n
+    placed_moved : (es : List Event) → Placed t es → (k : ℕ) (p : Packet) (r : Router) (b : Buffer) (n : ℕ) → Sits (event (Move q i m) (Ok Moved) ∷ es) k p r b n
         → Holds s.sizes r p n (at s.sizes (set middle (record_number s.sizes (neighbour (port_of m) q) (entered_by moving (port_of m))) (carried moving)) r b)
     placed_moved es placed k p r b n (carries {n = j} i' m' e z) = let h = placed k p q (buffer_of i) j z in arrives p j h.2 h.3
     placed_moved es placed k p r b n (stays ne z) =

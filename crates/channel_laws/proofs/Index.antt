@@ -5,14 +5,14 @@ use Rattle.mesh.specs.declared.compass.Direction.TheVariants.{North, East, South
 use Rattle.mesh.specs.declared.compass.Way.TheVariants.{Up, Down}
 use Rattle.mesh.specs.declared.grid.Router.{Router}
 use Rattle.mesh.specs.declared.stack.Sizes.{Sizes}
-use Rattle.mesh.specs.Layout.{cell}
+use Rattle.mesh.specs.Layout.{cell, place_of}
 use Rattle.channel_laws.specs.declared.buffers.Buffer.{Buffer}
 use Rattle.channel_laws.specs.declared.buffers.Buffer.TheVariants.{Local, Side, Below, Above}
 use Rattle.channel_laws.specs.declared.buffers.Network.TheVariants.{Zero, One}
 use Rattle.channel_laws.specs.declared.buffers.Port.{Port}
 use Rattle.channel_laws.specs.declared.buffers.Port.TheVariants.{Planar, Vertical}
 use Rattle.channel_laws.specs.Buffers.{Coded, buffer_number, buffer_of, port_number, port_of}
-use Rattle.channel_laws.specs.Table.{InStack, Numbered, place_of, record_number, table_size}
+use Rattle.channel_laws.specs.Table.{InStack, Numbered, record_number, table_size}
 
 -- a buffer is the one with its number
 pub buffer_back : (b : Buffer) → buffer_of (buffer_number b) ≡ b

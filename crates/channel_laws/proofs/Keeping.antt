@@ -1,5 +1,5 @@
 -- What every call keeps: each packet is sound and followed, and none is lost.
-use Rattle.std.proofs.Common.{◌≡◌, ℕ, ◌+◌, ◌*◌, ◌≤◌, Bool, true, false, cond, ◌&&◌, List, [], ◌∷◌, length, get_or, set, sum_by, sym, refl, ap, ◌∙◌, subst, zero-add, arith, length-set}
+use Rattle.std.proofs.Common.{◌≡◌, ℕ, ◌+◌, ◌*◌, ◌≤◌, Bool, true, false, cond, ◌&&◌, List, [], ◌∷◌, length, get_or, set, sum_by, sym, refl, ap, ◌∙◌, subst, zero-add, arith, length-set, Ok, Err}
 use Rattle.std.proofs.lemmas.List.Sums.{sum_by-cons}
 use Rattle.std.proofs.lemmas.Bool.{and_right, both_ways, cond-false, cond-true, false≢true, true≢false}
 use Rattle.mesh.specs.declared.compass.Direction.TheVariants.{North, East, South, West}
@@ -13,7 +13,7 @@ use Rattle.channel_laws.specs.declared.buffers.Buffer.{Buffer}
 use Rattle.channel_laws.specs.declared.buffers.Buffer.TheVariants.{Local}
 use Rattle.channel_laws.specs.declared.buffers.Port.{Port}
 use Rattle.channel_laws.specs.declared.buffers.Port.TheVariants.{Planar, Vertical}
-use Rattle.channel_laws.specs.declared.calls.Answer.TheVariants.{Injected, Moved, Collected, Refused}
+use Rattle.channel_laws.specs.declared.calls.Done.TheVariants.{Injected, Moved, Collected}
 use Rattle.channel_laws.specs.declared.calls.Call.{Call}
 use Rattle.channel_laws.specs.declared.calls.Call.TheVariants.{Inject, Move, Collect}
 use Rattle.channel_laws.specs.declared.records.Record.{Record}
@@ -84,15 +84,15 @@ module _ (reply : Told → Directions) (s : State) (g : Guided reply s) (fits : 
     pub counted : (p : Packet) → injections_of p es ≡ weigh s.sizes (one p) t + collections_of p es
 
   -- a refusal
-  good_refused : (t : List Record) (es : List Event) (c : Call) (x : Refusal) → Good t es → Good t (event c (Refused x) ∷ es)
+  good_refused : (t : List Record) (es : List Event) (c : Call) (x : Refusal) → Good t es → Good t (event c (Err x) ∷ es)
   good_refused t es c x q = record {
     long = q.long;
     sound = q.sound;
     traced = λ r b i full. ((q.traced r b i full).0, stays (λ a _. false≢true a) (q.traced r b i full).1);
     counted = λ p.
-        let a = sum_by-cons (λ e. cond (injects_it p e.call && accepted e.answer) 1 0) (event c (Refused x)) es in
+        let a = sum_by-cons (λ e. cond (injects_it p e.call && accepted e.answer) 1 0) (event c (Err x)) es in
         let no : ◌≡◌ {A = ℕ} (cond (injects_it p c && false) 1 0) 0 = ap (λ v. cond v 1 0) (and_right (injects_it p c) false refl) in
-        let b = sum_by-cons (λ e. cond (hands_out p e.answer) 1 0) (event c (Refused x)) es in
+        let b = sum_by-cons (λ e. cond (hands_out p e.answer) 1 0) (event c (Err x)) es in
         omega (arith, q.counted p);
   }
 
@@ -109,17 +109,17 @@ module _ (reply : Told → Directions) (s : State) (g : Guided reply s) (fits : 
         let new = full_weight f (fresh source destination tag) refl in
         omega arith
 
-    good_injected : (es : List Event) → Good t es → Good after_inject (event (Inject source destination tag) Injected ∷ es)
+    good_injected : (es : List Event) → Good t es → Good after_inject (event (Inject source destination tag) (Ok Injected) ∷ es)
     good_injected es q = record {
       long = simp length-set q.long;
       sound = put_each s.sizes t long (Sound reply s) source Local (fresh source destination tag) c.from (λ _. fresh_sound reply s g fits source destination tag c.from c.to)
           (λ r b i _ full. q.sound r b i full);
-      traced = put_each s.sizes t long (Traced (event (Inject source destination tag) Injected ∷ es)) source Local (fresh source destination tag) c.from (λ _. (injections es, enters refl refl))
+      traced = put_each s.sizes t long (Traced (event (Inject source destination tag) (Ok Injected) ∷ es)) source Local (fresh source destination tag) c.from (λ _. (injections es, enters refl refl))
           (λ r b i _ full. ((q.traced r b i full).0, stays (λ _ no. no) (q.traced r b i full).1));
       counted = λ p.
-          let a = sum_by-cons (λ e. cond (injects_it p e.call && accepted e.answer) 1 0) (event (Inject source destination tag) Injected) es in
+          let a = sum_by-cons (λ e. cond (injects_it p e.call && accepted e.answer) 1 0) (event (Inject source destination tag) (Ok Injected)) es in
           let it : cond (same_packet p (packet source destination tag) && true) 1 0 ≡ one p (fresh source destination tag) = ap (λ v. cond v 1 0) (and_true (same_packet p (packet source destination tag))) in
-          let b = sum_by-cons (λ e. cond (hands_out p e.answer) 1 0) (event (Inject source destination tag) Injected) es in
+          let b = sum_by-cons (λ e. cond (hands_out p e.answer) 1 0) (event (Inject source destination tag) (Ok Injected)) es in
           omega (arith, q.counted p, inject_weigh (one p));
     }
 
@@ -145,17 +145,17 @@ module _ (reply : Told → Directions) (s : State) (g : Guided reply s) (fits : 
     pub collect_weigh : (f : Record → ℕ) → weigh s.sizes f (after_take t long r (buffer_of n) c.at) + f (at s.sizes t r (buffer_of n)) ≡ weigh s.sizes f t
     collect_weigh f = omega (arith, take_weigh t long r (buffer_of n) c.at f, full_weight f (at s.sizes t r (buffer_of n)) c.full)
 
-    good_collected : (es : List Event) → Good t es → Good (after_take t long r (buffer_of n) c.at) (event (Collect r n) (Collected (at s.sizes t r (buffer_of n))) ∷ es)
+    good_collected : (es : List Event) → Good t es → Good (after_take t long r (buffer_of n) c.at) (event (Collect r n) (Ok (Collected (at s.sizes t r (buffer_of n)))) ∷ es)
     good_collected es q =
         let x = at s.sizes t r (buffer_of n) in
         record {
           long = simp length-set q.long;
           sound = sound_taken t long r (buffer_of n) c.at q.sound;
-          traced = traced_taken t long r (buffer_of n) c.at es (event (Collect r n) (Collected x))
+          traced = traced_taken t long r (buffer_of n) c.at es (event (Collect r n) (Ok (Collected x)))
               (λ r' b' ne k p m z. stays (λ _ it. ne (λ v. record_number s.sizes (sym it.0 v) (sym it.1 v))) z) q.traced;
           counted = λ p.
-              let a = sum_by-cons (λ e. cond (injects_it p e.call && accepted e.answer) 1 0) (event (Collect r n) (Collected x)) es in
-              let b = sum_by-cons (λ e. cond (hands_out p e.answer) 1 0) (event (Collect r n) (Collected x)) es in
+              let a = sum_by-cons (λ e. cond (injects_it p e.call && accepted e.answer) 1 0) (event (Collect r n) (Ok (Collected x))) es in
+              let b = sum_by-cons (λ e. cond (hands_out p e.answer) 1 0) (event (Collect r n) (Ok (Collected x))) es in
               omega (arith, q.counted p, collect_weigh (one p));
         }
 
@@ -184,22 +184,22 @@ module _ (reply : Told → Directions) (s : State) (g : Guided reply s) (fits : 
     pub leads_on : (es : List Event) → Good t es → Leads reply s g fits r taking (port_of m)
     leads_on es q = leads r (buffer_of n) taking c.at (q.sound r (buffer_of n) c.at c.full) c.away (port_of m) c.permitted
 
-    good_moved : (es : List Event) → Good t es → Good after_move (event (Move r n m) Moved ∷ es)
+    good_moved : (es : List Event) → Good t es → Good after_move (event (Move r n m) (Ok Moved) ∷ es)
     good_moved es q =
         let on = leads_on es q in
         let mine = q.traced r (buffer_of n) c.at c.full in
         let between = after_take t long r (buffer_of n) c.at in
         let sound_between = sound_taken t long r (buffer_of n) c.at q.sound in
-        let traced_between = traced_taken t long r (buffer_of n) c.at es (event (Move r n m) Moved)
+        let traced_between = traced_taken t long r (buffer_of n) c.at es (event (Move r n m) (Ok Moved))
         (λ r' b' ne k p m' z. stays (λ _ it. ne (λ v. record_number s.sizes (sym it.0 v) (sym it.1 v))) z) q.traced in
         record {
           long = simp length-set q.long;
           sound = put_each s.sizes between between_long (Sound reply s) _ _ (carried taking) on.in_stack' (λ _. on.sound') (λ r' b' j _ full. sound_between r' b' j full);
-          traced = put_each s.sizes between between_long (Traced (event (Move r n m) Moved ∷ es)) _ _ (carried taking) on.in_stack' (λ _. (mine.0, carries n m refl mine.1))
+          traced = put_each s.sizes between between_long (Traced (event (Move r n m) (Ok Moved) ∷ es)) _ _ (carried taking) on.in_stack' (λ _. (mine.0, carries n m refl mine.1))
               (λ r' b' j _ full. traced_between r' b' j full);
           counted = λ p.
-              let a = sum_by-cons (λ e. cond (injects_it p e.call && accepted e.answer) 1 0) (event (Move r n m) Moved) es in
-              let b = sum_by-cons (λ e. cond (hands_out p e.answer) 1 0) (event (Move r n m) Moved) es in
+              let a = sum_by-cons (λ e. cond (injects_it p e.call && accepted e.answer) 1 0) (event (Move r n m) (Ok Moved)) es in
+              let b = sum_by-cons (λ e. cond (hands_out p e.answer) 1 0) (event (Move r n m) (Ok Moved)) es in
               omega (arith, q.counted p, move_weigh on (one p));
         }
 

@@ -1,16 +1,15 @@
 -- Runs: the table stays good, and only so many calls are accepted without an injection.
 use Rattle.std.proofs.Common.{◌≡◌, ℕ, zero, suc, ◌+◌, ◌-◌, ◌*◌, ◌<◌, ◌≤◌, cond, ◌&&◌, List, [], ◌∷◌, ◌++◌, length, drop, replicate, sum_by, sym, refl, ap, ◌∙◌, subst, mul-le-mul_right, arith, length-append}
 use Rattle.std.specs.List.{flat_map}
-use Rattle.std.proofs.ByRecursion.{All-from_get_or, sum_by_le}
 use Rattle.std.proofs.lemmas.List.{get_or_append_left, get_or-replicate, length-replicate, take_at}
-use Rattle.std.proofs.lemmas.List.Sums.{sum_by-cons}
+use Rattle.std.proofs.lemmas.List.Sums.{sum_by-cons, sum_by-le}
 use Rattle.std.proofs.lemmas.Bool.{both_ways}
 use Rattle.mesh.specs.declared.compass.Directions.{Directions}
 use Rattle.mesh.specs.declared.grid.Router.{Router}
 use Rattle.mesh.specs.Compass.{gap}
 use Rattle.routing_laws.specs.Chains.{Told, longest}
 use Rattle.channel_laws.specs.declared.buffers.Buffer.{Buffer}
-use Rattle.channel_laws.specs.declared.calls.Answer.TheVariants.{Injected, Moved, Collected}
+use Rattle.channel_laws.specs.declared.calls.Done.TheVariants.{Injected, Moved, Collected}
 use Rattle.channel_laws.specs.declared.calls.Call.{Call}
 use Rattle.channel_laws.specs.declared.calls.Call.TheVariants.{Inject, Move, Collect}
 use Rattle.channel_laws.specs.declared.records.Record.{Record}
@@ -99,7 +98,7 @@ module _ (reply : Told → Directions) (s : State) (g : Guided reply s) (fits : 
       → workings (events reply (with_table s t) calls) ≤ length (packets (with_table s t)) * most
   dry t es q calls none =
       let after = run t es q calls in
-      let whole = sum_by_le left most (packets (with_table s t)) (All-from_get_or (λ x. left x ≤ most) (packets (with_table s t)) empty (λ i _. omega arith)) in
+      let whole = sum_by-le left most (packets (with_table s t)) (λ i _. omega arith) in
       let free : injections (events reply (with_table s t) calls) * most ≡ 0 = ap (λ n. n * most) none ∙ omega arith in
       omega (arith, after.3)
 

@@ -1,6 +1,5 @@
 -- A packet on its way: the plane it rides in, and what the rules of that plane give for its next move.
-use Rattle.std.proofs.Common.{◌≡◌, ℕ, ◌+◌, ◌-◌, ◌*◌, ◌<◌, ◌≤◌, Bool, true, false, cond, ◌&&◌, eqb, ltb, List, [], length, get_or, drop, None, Option, sym, refl, ap, ◌∙◌, subst, mul-le-mul_right, arith}
-use Rattle.std.specs.List.{ContainsAt as Has}
+use Rattle.std.proofs.Common.{◌≡◌, ℕ, ◌+◌, ◌-◌, ◌*◌, ◌<◌, ◌≤◌, Bool, true, false, cond, ◌&&◌, eqb, ltb, List, [], length, get_or, drop, None, Option, sym, refl, ap, ◌∙◌, subst, mul-le-mul_right, arith, Contains}
 use Rattle.std.proofs.lemmas.Nat.{mul-le}
 use Rattle.std.proofs.lemmas.List.{get_or-drop, get_or-map, get_or-take, length-drop, length-take-le}
 use Rattle.std.proofs.lemmas.Bool.{and_from, and_parts, both_ways, cond-false, cond-true, eq-eqb, eqb-false, le-ltb, lt-leb, lt-ltb, ltb-false, ltb-true, ne_eqb, or_from, not_from_true}
@@ -16,7 +15,7 @@ use Rattle.mesh.specs.declared.grid.Router.{Router}
 use Rattle.mesh.specs.declared.stack.Sizes.{Sizes}
 use Rattle.mesh.specs.Compass.{gap}
 use Rattle.mesh.specs.Halves.{half}
-use Rattle.mesh.specs.Layout.{Inside, cell}
+use Rattle.mesh.specs.Layout.{cell, Inside, place_of}
 use Rattle.routing_laws.specs.Chains.{Chain, Ended, Next, Permits, Plane, Rules, Starts, Told, back, half_at, longest, move, plane_of, start, tell, told}
 use Rattle.routing_laws.specs.Filling.{plane}
 use Rattle.routing_laws.proofs.Listing.{all_listed, cell_below, joined_some}
@@ -29,7 +28,7 @@ use Rattle.channel_laws.specs.declared.buffers.Port.{Port}
 use Rattle.channel_laws.specs.declared.buffers.Port.TheVariants.{Planar, Vertical}
 use Rattle.channel_laws.specs.declared.records.Record.{Record}
 use Rattle.channel_laws.specs.Buffers.{entered, network}
-use Rattle.channel_laws.specs.Table.{InStack, State, place_of, router_at}
+use Rattle.channel_laws.specs.Table.{InStack, State, router_at}
 use Rattle.channel_laws.specs.Ports.{beside, crossing_ports, gap_of, half_of, is_elevator, leads_out, neighbour, permitted_ports, planar_only, same_router, side_of, way_only, way_to}
 use Rattle.channel_laws.specs.Calls.{carried, damaged, entered_by, fresh}
 use Rattle.channel_laws.specs.Certificate.{Guided, bare_plane, filled_plane, most_moves}
@@ -206,11 +205,11 @@ module _ (reply : Told → Directions) (s : State) (g : Guided reply s) (fits : 
       ∙ ap (half way) (get_or-take (w * h) (drop (r.z * (w * h)) s.bytes) n 0 within ∙ get_or-drop (r.z * (w * h)) s.bytes n 0 ∙ ap (λ k. get_or s.bytes k 0) there)
 
   -- elevators by the map, and by the plane's list
-  listed_is : (way : Way) (r : Router) → InStack s.sizes r → has_gap s.sizes.planes way r.z ≡ true → Has (plane_for reply s way r.z).elevators (place_of r) → is_elevator s way r ≡ true
+  listed_is : (way : Way) (r : Router) → InStack s.sizes r → has_gap s.sizes.planes way r.z ≡ true → Contains (plane_for reply s way r.z).elevators (place_of r) → is_elevator s way r ≡ true
   listed_is way r i t e =
       let w = s.sizes.width in
       let h = s.sizes.height in
-      eq-eqb _ _ ((all_listed w h (omega arith) (omega arith) s.links (gap_of way r.z)).sound (place_of r) (subst (λ es. Has es (place_of r)) (cond-true _ _ _ t) e))
+      eq-eqb _ _ ((all_listed w h (omega arith) (omega arith) s.links (gap_of way r.z)).sound (place_of r) (subst (λ es. Contains es (place_of r)) (cond-true _ _ _ t) e))
 
   ahead : (r : Router) (b : Buffer) (x : Record) → InStack s.sizes r → Sound reply s r b x → (r.z ≡ x.destination.z → ⊥) → has_gap s.sizes.planes (way_of (riding x)) r.z ≡ true
   ahead r b x i q ne = gap_ahead s.sizes.planes x.source.z r.z x.destination.z q.from.plane i.plane q.to.plane q.between ne

@@ -17,12 +17,13 @@ use Rattle.channel_laws.specs.declared.buffers.Network.{Network}
 use Rattle.channel_laws.specs.declared.buffers.Network.TheVariants.{Zero, One}
 use Rattle.channel_laws.specs.declared.buffers.Port.{Port}
 use Rattle.channel_laws.specs.declared.buffers.Port.TheVariants.{Planar, Vertical}
-use Rattle.channel_laws.specs.declared.calls.Answer.TheVariants.{Moved, Collected}
+use Rattle.channel_laws.specs.declared.calls.Done.TheVariants.{Moved, Collected}
 use Rattle.channel_laws.specs.declared.calls.Call.{Call}
 use Rattle.channel_laws.specs.declared.calls.Call.TheVariants.{Move, Collect}
 use Rattle.channel_laws.specs.declared.records.Record.{Record}
 use Rattle.channel_laws.specs.Buffers.{buffer_number, buffer_of, entered, port_number, port_of}
-use Rattle.channel_laws.specs.Table.{InStack, State, empty, is_empty, kept, packets, place_of, record_number, table_size, with_table}
+use Rattle.mesh.specs.Layout.{place_of}
+use Rattle.channel_laws.specs.Table.{InStack, State, empty, is_empty, kept, packets, record_number, table_size, with_table}
 use Rattle.channel_laws.specs.Ports.{beside, has_port, leads_out, neighbour, permitted_ports, same_router, side_of, way_only}
 use Rattle.channel_laws.specs.Calls.{entered_by, outcome, short, collect_refusal, move_refusal, taken, moved}
 use Rattle.channel_laws.specs.Runs.{Event, accepted, works}
@@ -223,7 +224,7 @@ module _ (reply : Told → Directions) (s : State) (g : Guided reply s) (fits : 
       collects_it n r k l q e = (
         Collect r k,
         refl,
-        none_accepted (collect_refusal (with_table s t) r k) (Collected (at s.sizes t r (buffer_of k))) (taken (with_table s t) r (buffer_of k)) (with_table s t) refl (collects (with_table s t) r k record {
+        none_accepted (collect_refusal (with_table s t) r k) (Collected (at s.sizes t r (buffer_of k))) (taken (with_table s t) r (buffer_of k)) (with_table s t) (collects (with_table s t) r k record {
           long = enough;
           at = q.here;
           buffer = l;
@@ -243,7 +244,7 @@ module _ (reply : Told → Directions) (s : State) (g : Guided reply s) (fits : 
           let back_p = sym (port_back p) in (
             Move r k (port_number p),
             refl,
-            none_accepted (move_refusal reply (with_table s t) r k (port_number p)) Moved (moved (with_table s t) r (buffer_of k) (port_of (port_number p))) (with_table s t) refl (moves_on reply (with_table s t) r k (port_number p) record {
+            none_accepted (move_refusal reply (with_table s t) r k (port_number p)) Moved (moved (with_table s t) r (buffer_of k) (port_of (port_number p))) (with_table s t) (moves_on reply (with_table s t) r k (port_number p) record {
               long = enough;
               at = q.here;
               buffer = l;

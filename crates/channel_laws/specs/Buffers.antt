@@ -1,9 +1,11 @@
 -- The buffers and ports of a router: their numbers, and which buffer a move enters.
-use Rattle.std.specs.Prelude.{◌≡◌, ℕ, ◌+◌, ◌-◌, ◌<◌, cond, ◌==◌, nat_lt}
+use Rattle.std.specs.Prelude.{◌≡◌, ℕ, ◌+◌, ◌-◌, ◌<◌, cond, Ok, Err, Result, ◌==◌, nat_lt}
 use Rattle.mesh.specs.declared.compass.Direction.{Direction}
 use Rattle.mesh.specs.declared.compass.Direction.TheVariants.{North, East, South, West}
 use Rattle.mesh.specs.declared.compass.Way.TheVariants.{Up, Down}
 use Rattle.mesh.specs.declared.grid.Router.{Router}
+use Rattle.mesh.specs.declared.refusals.Refusal.{Refusal}
+use Rattle.mesh.specs.declared.refusals.Refusal.TheVariants.{Outside}
 use Rattle.routing_laws.specs.Chains.{back}
 use Rattle.channel_laws.specs.declared.buffers.Buffer.{Buffer}
 use Rattle.channel_laws.specs.declared.buffers.Buffer.TheVariants.{Local, Side, Below, Above}
@@ -56,6 +58,13 @@ port_number (Vertical Down) = 5
 -- the port with a number
 abbrev pub port_of : ℕ → Port
 port_of n = cond (nat_lt n 4) (Planar (side_at n)) (cond (n == 4) (Vertical Up) (Vertical Down))
+
+-- what a number stands for at a call: a buffer or a port, or one outside
+abbrev pub buffer_at : ℕ → Result Buffer Refusal
+buffer_at n = cond (nat_lt n buffer_count) (Ok (buffer_of n)) (Err Outside)
+
+abbrev pub port_at : ℕ → Result Port Refusal
+port_at n = cond (nat_lt n port_count) (Ok (port_of n)) (Err Outside)
 
 -- a buffer or a port is the one with its number, and a number below their count is that of its buffer or port
 pub record Coded : Type 0 where

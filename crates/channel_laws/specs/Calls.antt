@@ -10,13 +10,14 @@ use Rattle.channel_laws.specs.declared.buffers.Buffer.{Buffer}
 use Rattle.channel_laws.specs.declared.buffers.Buffer.TheVariants.{Local}
 use Rattle.channel_laws.specs.declared.buffers.Port.{Port}
 use Rattle.channel_laws.specs.declared.buffers.Ports.{Ports}
-use Rattle.channel_laws.specs.declared.calls.Answer.{Answer}
-use Rattle.channel_laws.specs.declared.calls.Answer.TheVariants.{Injected, Moved, Collected, Refused}
+use Rattle.channel_laws.specs.declared.calls.Done.{Done}
+use Rattle.channel_laws.specs.declared.calls.Done.TheVariants.{Injected, Moved, Collected}
 use Rattle.channel_laws.specs.declared.calls.Call.{Call}
 use Rattle.channel_laws.specs.declared.calls.Call.TheVariants.{Inject, Move, Collect}
 use Rattle.channel_laws.specs.declared.records.Record.{Record}
 use Rattle.channel_laws.specs.Buffers.{buffer_count, buffer_of, entered, network, port_count, port_of}
-use Rattle.channel_laws.specs.Table.{State, empty, in_stack, is_empty, record_at, record_number, table_size, with_table}
+use Rattle.mesh.specs.Layout.{in_stack}
+use Rattle.channel_laws.specs.Table.{State, empty, is_empty, record_at, record_number, table_size, with_table}
 use Rattle.channel_laws.specs.Ports.{has_port, leads_out, neighbour, permitted_ports, same_router}
 
 -- the first refusal whose reason holds
@@ -78,15 +79,21 @@ inject_refusal s source destination = first (inject_reasons s source destination
 abbrev pub injected : State → Router → Router → ℕ → State
 injected s source destination tag = put s source Local (fresh source destination tag)
 
+-- the reasons for which a buffer has no packet to speak of, first to last
+abbrev pub packet_reasons : State → Router → ℕ → List (Bool × Refusal)
+packet_reasons s r n =
+    let x = record_at s r (buffer_of n) in
+    (not (in_stack s.sizes r && nat_lt n buffer_count), Outside)
+    ∷ (is_empty x, EmptyBuffer)
+    ∷ (damaged s.sizes x, Damaged)
+    ∷ []
+
 -- collect: a packet at its destination is handed out; the reasons to refuse, first to last
 abbrev pub collect_reasons : State → Router → ℕ → List (Bool × Refusal)
 collect_reasons s r n =
-    let x = record_at s r (buffer_of n) in
     (short s, ShortBuffer)
-    ∷ (not (in_stack s.sizes r && nat_lt n buffer_count), Outside)
-    ∷ (is_empty x, EmptyBuffer)
-    ∷ (damaged s.sizes x, Damaged)
-    ∷ (not (same_router r x.destination), NotArrived)
+    ∷ packet_reasons s r n
+    ++ (not (same_router r (record_at s r (buffer_of n)).destination), NotArrived)
     ∷ []
 
 -- why a collect is refused
@@ -103,17 +110,15 @@ moved s r b p = put (taken s r b) (neighbour p r) (entered_by (record_at s r b) 
 
 -- ports: the ports that a packet is permitted; the reasons to refuse, first to last
 abbrev pub ports_reasons : State → Router → ℕ → List (Bool × Refusal)
-ports_reasons s r n =
-    let x = record_at s r (buffer_of n) in
-    (short s, ShortBuffer)
-    ∷ (not (in_stack s.sizes r && nat_lt n buffer_count), Outside)
-    ∷ (is_empty x, EmptyBuffer)
-    ∷ (damaged s.sizes x, Damaged)
-    ∷ []
+ports_reasons s r n = (short s, ShortBuffer) ∷ packet_reasons s r n
 
 -- why ports are refused
 abbrev pub ports_refusal : State → Router → ℕ → Option Refusal
 ports_refusal s r n = first (ports_reasons s r n)
+
+-- what a call answers: what it did, or why it is refused
+abbrev pub Answer : Type 0
+Answer = Result Done Refusal
 
 -- what a call answers, and the state after it
 pub record Outcome : Type 0 where
@@ -121,9 +126,9 @@ pub record Outcome : Type 0 where
   pub after : State
 
 -- what is done without a refusal; a refusal leaves the state as it was
-abbrev pub decided : Option Refusal → Answer → State → State → Outcome
-decided None done new old = record { answer = done; after = new }
-decided (Some x) done new old = record { answer = Refused x; after = old }
+abbrev pub decided : Option Refusal → Done → State → State → Outcome
+decided None done new old = record { answer = Ok done; after = new }
+decided (Some x) done new old = record { answer = Err x; after = old }
 
 module _ (reply : Told → Directions) where
   -- move: a packet leaves by a permitted port; the reasons to refuse, first to last

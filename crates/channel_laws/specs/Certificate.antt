@@ -1,6 +1,5 @@
 -- The certificate: what holds after every list of calls from a newly cleared table over a planned stack.
-use Rattle.std.specs.Prelude.{◌≡◌, ℕ, ◌+◌, ◌*◌, ◌<◌, ◌≤◌, true, false, List, [], map, length, replicate, count_by}
-use Rattle.std.specs.List.{ContainsAt as Has}
+use Rattle.std.specs.Prelude.{◌≡◌, ℕ, ◌+◌, ◌*◌, ◌<◌, ◌≤◌, true, false, List, [], map, length, replicate, count_by, Contains}
 use Rattle.mesh.specs.declared.compass.Directions.{Directions}
 use Rattle.mesh.specs.declared.compass.Way.{Way}
 use Rattle.mesh.specs.declared.compass.Way.TheVariants.{Up, Down}
@@ -17,7 +16,8 @@ use Rattle.channel_laws.specs.declared.calls.Call.TheVariants.{Move}
 use Rattle.channel_laws.specs.declared.records.Record.{Record}
 use Rattle.channel_laws.specs.Buffers.{buffer_of, port_of}
 use Rattle.channel_laws.specs.Ports.{gap_of}
-use Rattle.channel_laws.specs.Table.{InStack, State, packets, packets_in, place_of}
+use Rattle.mesh.specs.Layout.{place_of}
+use Rattle.channel_laws.specs.Table.{InStack, State, packets, packets_in}
 use Rattle.channel_laws.specs.Calls.{cleared, outcome, short}
 use Rattle.channel_laws.specs.Runs.{Event, Handed, Packet, Sits, accepted, collections_of, events, injections, injections_of, packet_of, same_packet, state_after, works, workings}
 
@@ -61,10 +61,10 @@ pub record Certificate (reply : Told → Directions) (s : State) (past : List Ev
   pub goes_on : 0 < length (packets s) → (c : Call) × (works c ≡ true) × (accepted (outcome reply s c).answer ≡ true)
   pub only_then : (c : Call) → works c ≡ true → accepted (outcome reply s c).answer ≡ true → 0 < length (packets s)
   -- the moves of each packet held or collected are the accepted moves that carried it, and they are bounded
-  pub held_moves : (r : Router) (b : Buffer) (x : Record) → InStack s.sizes r → Has (packets_in s r b) x → Followed past r b x × (x.moves ≤ most_moves s x)
+  pub held_moves : (r : Router) (b : Buffer) (x : Record) → InStack s.sizes r → Contains (packets_in s r b) x → Followed past r b x × (x.moves ≤ most_moves s x)
   pub handed_moves : (r : Router) (n : ℕ) (x : Record) (before : List Event) → Handed past r n x before → Followed before r (buffer_of n) x × (x.moves ≤ most_moves s x)
   -- what the events say is in a buffer is held there, and each number is that of one packet, in one buffer
-  pub followed_held : (k : ℕ) (p : Packet) (r : Router) (b : Buffer) (n : ℕ) → Sits past k p r b n → (x : Record) × InStack s.sizes r × Has (packets_in s r b) x × (packet_of x ≡ p) × (x.moves ≡ n)
+  pub followed_held : (k : ℕ) (p : Packet) (r : Router) (b : Buffer) (n : ℕ) → Sits past k p r b n → (x : Record) × InStack s.sizes r × Contains (packets_in s r b) x × (packet_of x ≡ p) × (x.moves ≡ n)
   pub followed_once : (k : ℕ) (p q : Packet) (r r' : Router) (b b' : Buffer) (n n' : ℕ) → Sits past k p r b n → Sits past k q r' b' n' → (p ≡ q) × (r ≡ r') × (b ≡ b') × (n ≡ n')
   -- whatever calls follow, only so many of them are accepted before the next accepted injection
   pub runs_dry : (later : List Call) → injections (events reply s later) ≡ 0 → workings (events reply s later) ≤ length (packets s) * (s.sizes.planes * (longest s.sizes.width s.sizes.height + 1))

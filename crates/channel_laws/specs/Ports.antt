@@ -9,9 +9,9 @@ use Rattle.mesh.specs.declared.compass.Way.TheVariants.{Up, Down}
 use Rattle.mesh.specs.declared.grid.Place.{Place}
 use Rattle.mesh.specs.declared.grid.Router.{Router}
 use Rattle.mesh.specs.declared.stack.Sizes.{Sizes}
-use Rattle.mesh.specs.Compass.{has}
+use Rattle.mesh.specs.Compass.{has, nowhere}
 use Rattle.mesh.specs.Halves.{half}
-use Rattle.mesh.specs.Layout.{cell}
+use Rattle.mesh.specs.Layout.{cell, place_of}
 use Rattle.routing_laws.specs.Chains.{Told, tell}
 use Rattle.routing_laws.specs.Elevators.{linked}
 use Rattle.channel_laws.specs.declared.buffers.Buffer.{Buffer}
@@ -20,7 +20,7 @@ use Rattle.channel_laws.specs.declared.buffers.Port.{Port}
 use Rattle.channel_laws.specs.declared.buffers.Port.TheVariants.{Planar, Vertical}
 use Rattle.channel_laws.specs.declared.buffers.Ports.{Ports}
 use Rattle.channel_laws.specs.declared.records.Record.{Record}
-use Rattle.channel_laws.specs.Table.{State, place_of, router_at}
+use Rattle.channel_laws.specs.Table.{State, router_at}
 
 -- whether a set holds a port
 abbrev pub has_port : Port → Ports → Bool
@@ -31,10 +31,6 @@ has_port (Vertical Down) s = s.down
 -- ports of the plane alone
 abbrev pub planar_only : Directions → Ports
 planar_only ds = record { planar = ds; up = false; down = false }
-
--- no direction
-abbrev pub nowhere : Directions
-nowhere = record { north = false; east = false; south = false; west = false }
 
 -- the port of a way alone
 abbrev pub way_only : Way → Ports

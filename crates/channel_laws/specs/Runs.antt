@@ -1,19 +1,18 @@
 -- Runs: what lists of calls answer, and where each packet is, by the calls and their answers alone.
-use Rattle.std.specs.Prelude.{◌≡◌, ℕ, ◌+◌, Bool, true, false, ◌&&◌, List, [], ◌∷◌, count_by, ◌==◌}
+use Rattle.std.specs.Prelude.{◌≡◌, ℕ, ◌+◌, Bool, true, false, ◌&&◌, List, [], ◌∷◌, Ok, Err, count_by, ◌==◌}
 use Rattle.mesh.specs.declared.compass.Directions.{Directions}
 use Rattle.mesh.specs.declared.grid.Router.{Router}
 use Rattle.routing_laws.specs.Chains.{Told}
 use Rattle.channel_laws.specs.declared.buffers.Buffer.{Buffer}
 use Rattle.channel_laws.specs.declared.buffers.Buffer.TheVariants.{Local}
-use Rattle.channel_laws.specs.declared.calls.Answer.{Answer}
-use Rattle.channel_laws.specs.declared.calls.Answer.TheVariants.{Injected, Moved, Collected, Refused}
+use Rattle.channel_laws.specs.declared.calls.Done.TheVariants.{Injected, Moved, Collected}
 use Rattle.channel_laws.specs.declared.calls.Call.{Call}
 use Rattle.channel_laws.specs.declared.calls.Call.TheVariants.{Inject, Move, Collect}
 use Rattle.channel_laws.specs.declared.records.Record.{Record}
 use Rattle.channel_laws.specs.Buffers.{buffer_of, entered, network, port_of}
 use Rattle.channel_laws.specs.Table.{State}
 use Rattle.channel_laws.specs.Ports.{neighbour, same_router}
-use Rattle.channel_laws.specs.Calls.{outcome}
+use Rattle.channel_laws.specs.Calls.{Answer, outcome}
 
 -- a call with what it answered
 pub record Event : Type 0 where
@@ -36,10 +35,8 @@ events reply s (c ∷ earlier) = event c (outcome reply (state_after reply s ear
 
 -- the answer of a call that was not refused
 abbrev pub accepted : Answer → Bool
-accepted Injected = true
-accepted Moved = true
-accepted (Collected x) = true
-accepted (Refused x) = false
+accepted (Ok done) = true
+accepted (Err x) = false
 
 -- a packet: two are the same when source, destination and tag are
 pub record Packet : Type 0 where
@@ -87,10 +84,10 @@ injects_it p (Collect r n) = false
 
 -- an answer that hands out a packet
 abbrev pub hands_out : Packet → Answer → Bool
-hands_out p Injected = false
-hands_out p Moved = false
-hands_out p (Collected x) = same_packet p (packet_of x)
-hands_out p (Refused x) = false
+hands_out p (Ok Injected) = false
+hands_out p (Ok Moved) = false
+hands_out p (Ok (Collected x)) = same_packet p (packet_of x)
+hands_out p (Err x) = false
 
 -- how often a run brought a packet in
 abbrev pub injections_of : Packet → List Event → ℕ
@@ -120,5 +117,5 @@ pub data Sits : List Event → ℕ → Packet → Router → Buffer → ℕ → 
 
 -- what a run handed out: a collect at buffer n of router r handed out record x, after the events before
 pub data Handed : List Event → Router → ℕ → Record → List Event → Type 0 where
-  last : {before : List Event} {r : Router} {n : ℕ} {x : Record} → Handed (event (Collect r n) (Collected x) ∷ before) r n x before
+  last : {before : List Event} {r : Router} {n : ℕ} {x : Record} → Handed (event (Collect r n) (Ok (Collected x)) ∷ before) r n x before
   sooner : {e : Event} {es before : List Event} {r : Router} {n : ℕ} {x : Record} → Handed es r n x before → Handed (e ∷ es) r n x before

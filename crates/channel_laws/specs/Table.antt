@@ -1,10 +1,10 @@
 -- The channel table: where each buffer's record stands, and which packets the table holds.
-use Rattle.std.specs.Prelude.{◌≡◌, ℕ, ◌+◌, ◌*◌, ◌<◌, Bool, cond, ◌&&◌, List, [], ◌∷◌, take, ◌==◌, nat_lt, slice_index_or}
+use Rattle.std.specs.Prelude.{◌≡◌, ℕ, ◌+◌, ◌*◌, ◌<◌, Bool, cond, List, [], ◌∷◌, take, ◌==◌, slice_index_or}
 use Rattle.std.specs.List.{flat_map}
 use Rattle.mesh.specs.declared.grid.Place.{Place}
 use Rattle.mesh.specs.declared.grid.Router.{Router}
 use Rattle.mesh.specs.declared.stack.Sizes.{Sizes}
-use Rattle.mesh.specs.Layout.{cell}
+use Rattle.mesh.specs.Layout.{cell, place_of}
 use Rattle.channel_laws.specs.declared.buffers.Buffer.{Buffer}
 use Rattle.channel_laws.specs.declared.records.Record.{Record}
 use Rattle.channel_laws.specs.Buffers.{buffer_count, buffer_number}
@@ -24,19 +24,11 @@ state s links bytes table = record { sizes = s; links = links; bytes = bytes; ta
 abbrev pub with_table : State → List Record → State
 with_table s t = record { sizes = s.sizes; links = s.links; bytes = s.bytes; table = t }
 
--- a router of the stack, as a test
-abbrev pub in_stack : Sizes → Router → Bool
-in_stack s r = nat_lt r.x s.width && (nat_lt r.y s.height && nat_lt r.z s.planes)
-
 -- a router of the stack, as a fact
 pub record InStack (s : Sizes) (r : Router) : Type 0 where
   pub column : r.x < s.width
   pub row : r.y < s.height
   pub plane : r.z < s.planes
-
--- the place of a router within its plane
-abbrev pub place_of : Router → Place
-place_of r = record { x = r.x; y = r.y }
 
 -- the router at a place of a plane
 abbrev pub router_at : ℕ → Place → Router

@@ -2,7 +2,7 @@
 use crate::records::Record;
 use mesh::{Refusal, Router};
 
-#[derive(Clone, Copy)]
+#[derive(Clone, Copy, PartialEq, Eq, Debug)]
 pub enum Call {
     Inject {
         source: Router,
@@ -20,10 +20,12 @@ pub enum Call {
     },
 }
 
-#[derive(Clone, Copy)]
-pub enum Answer {
+// What an accepted call did.
+#[derive(Clone, Copy, PartialEq, Eq, Debug)]
+pub enum Done {
     Injected,
     Moved,
     Collected(Record),
-    Refused(Refusal),
 }
+
+pub type Answer = Result<Done, Refusal>;

@@ -10,6 +10,6 @@ mod certificate;
 mod records;
 
 pub use buffers::{Buffer, Network, Port, Ports};
-pub use calls::{Answer, Call};
+pub use calls::{Answer, Call, Done};
 pub use certificate::{certificate_holds, numbers_are_faithful, records_are_apart};
 pub use records::Record;

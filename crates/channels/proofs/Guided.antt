@@ -1,7 +1,6 @@
 -- A stack that is planned by a filler, with the guide of that filler, is one that the certificate speaks of; so the
 -- certificate holds once the table is clear.
-use Rattle.std.proofs.Common.{◌≡◌, ℕ, ◌+◌, ◌*◌, ◌<◌, ◌≤◌, false, ◌||◌, ltb, List, [], ◌++◌, map, length, replicate, Ok, sym, ap, ◌∙◌, subst, arith, length-append}
-use Rattle.std.specs.List.{ContainsAt as Has}
+use Rattle.std.proofs.Common.{◌≡◌, ℕ, ◌+◌, ◌*◌, ◌<◌, ◌≤◌, false, ◌||◌, ltb, List, [], ◌++◌, map, length, replicate, Ok, sym, ap, ◌∙◌, subst, arith, length-append, Contains}
 use Rattle.std.proofs.lemmas.Nat.{mul-le}
 use Rattle.std.proofs.lemmas.List.FromFn.{length-map-range_with_len}
 use Rattle.std.proofs.lemmas.Bool.{le-ltb}
@@ -24,9 +23,9 @@ use Rattle.channel_laws.specs.Table.{state}
 use Rattle.channels.specs.Running.{Certain, clear_table}
 
 module _ {C : Type 0} (j : Job C) (c : C) (fit : Fitting j) (reply : Told → Directions) (lawful : ℕ → ℕ → List Place → List ℕ → Type 0)
-    (rules : (w h : ℕ) (es : List Place) (filling : List ℕ) → 0 < w → 0 < h → ((e : Place) → Has es e → Inside w h e) → lawful w h es filling → Rules (plane_of w h es filling reply))
+    (rules : (w h : ℕ) (es : List Place) (filling : List ℕ) → 0 < w → 0 < h → ((e : Place) → Contains es e → Inside w h e) → lawful w h es filling → Rules (plane_of w h es filling reply))
     (none : (w h : ℕ) → lawful w h [] (replicate (w * h) 0))
-    (fills : (t : Task) (d : C) → 0 < t.width → 0 < t.height → 0 < length t.elevators → ((e : Place) → Has t.elevators e → Inside t.width t.height e) → lawful t.width t.height t.elevators (j.half t d))
+    (fills : (t : Task) (d : C) → 0 < t.width → 0 < t.height → 0 < length t.elevators → ((e : Place) → Contains t.elevators e → Inside t.width t.height e) → lawful t.width t.height t.elevators (j.half t d))
     (joined : (g : ℕ) → g < gaps j → Linked j g) (rest : List ℕ) (table : List Record) where
   abbrev w : ℕ
   w = j.sizes.width
@@ -37,7 +36,7 @@ module _ {C : Type 0} (j : Job C) (c : C) (fit : Fitting j) (reply : Told → Di
   some : 0 < area j
   some = omega (arith, mul-le 1 1 w h j.sizes.some_columns j.sizes.some_rows)
 
-  inside : (g : ℕ) (e : Place) → Has (elevators w h j.links g) e → Inside w h e
+  inside : (g : ℕ) (e : Place) → Contains (elevators w h j.links g) e → Inside w h e
   inside g = (all_listed w h j.sizes.some_columns j.sizes.some_rows j.links g).inside
 
   -- a half that the filler wrote for the elevators of a gap

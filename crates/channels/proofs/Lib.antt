@@ -1,3 +1,4 @@
 pub mod Within
 pub mod Guided
 pub mod Stepping
+pub mod Reasons

@@ -4,19 +4,19 @@ use mathlib.Core.List.{reverse-append, reverse-cons}
 use Rattle.mesh.specs.declared.compass.Directions.{Directions}
 use Rattle.mesh.specs.declared.refusals.Refusal.{Refusal}
 use Rattle.routing_laws.specs.Chains.{Told}
-use Rattle.channel_laws.specs.declared.calls.Answer.{Answer}
-use Rattle.channel_laws.specs.declared.calls.Answer.TheVariants.{Collected, Injected, Moved}
+use Rattle.channel_laws.specs.declared.calls.Done.{Done}
+use Rattle.channel_laws.specs.declared.calls.Done.TheVariants.{Collected, Injected, Moved}
 use Rattle.channel_laws.specs.declared.calls.Call.{Call}
 use Rattle.channel_laws.specs.declared.calls.Call.TheVariants.{Collect, Inject, Move}
 use Rattle.channel_laws.specs.declared.records.Record.{Record}
 use Rattle.channel_laws.specs.Buffers.{buffer_of, port_of}
-use Rattle.channel_laws.specs.Calls.{collect_refusal, decided, inject_refusal, injected, move_refusal, moved, outcome, taken}
+use Rattle.channel_laws.specs.Calls.{Answer, collect_refusal, decided, inject_refusal, injected, move_refusal, moved, outcome, taken}
 use Rattle.channel_laws.specs.Runs.{events, state_after}
 use Rattle.channel_laws.specs.Table.{State, record_at, with_table}
 use Rattle.channels.specs.Running.{answered, ran}
 
 -- a call changes nothing but the table
-decided_table : (s : State) (o : Option Refusal) (a : Answer) (t : List Record) → (decided o a (with_table s t) s).after ≡ with_table s (decided o a (with_table s t) s).after.table
+decided_table : (s : State) (o : Option Refusal) (a : Done) (t : List Record) → (decided o a (with_table s t) s).after ≡ with_table s (decided o a (with_table s t) s).after.table
 decided_table s None a t = refl
 decided_table s (Some x) a t = refl
 

@@ -1,6 +1,5 @@
 -- Routers that lie in the stack.
-use Rattle.std.proofs.Common.{◌≡◌, true, false, ◌&&◌, ltb, arith}
-use Rattle.std.proofs.lemmas.Bool.{and_parts, ltb-true}
+use Rattle.std.proofs.Common.{◌≡◌, true, false, arith}
 use Rattle.std.proofs.lemmas.Bool.Decides.{nat_tests}
 use Rattle.mesh.specs.declared.compass.Direction.TheVariants.{North, East, South, West}
 use Rattle.mesh.specs.declared.compass.Way.TheVariants.{Up, Down}
@@ -9,13 +8,7 @@ use Rattle.mesh.specs.declared.stack.Sizes.{Sizes}
 use Rattle.channel_laws.specs.declared.buffers.Port.{Port}
 use Rattle.channel_laws.specs.declared.buffers.Port.TheVariants.{Planar, Vertical}
 use Rattle.channel_laws.specs.Ports.{leads_out, neighbour}
-use Rattle.channel_laws.specs.Table.{InStack, in_stack}
-
-pub within : (s : Sizes) (r : Router) → in_stack s r ≡ true → InStack s r
-within s r t =
-    let first = and_parts (ltb r.x s.width) (ltb r.y s.height && ltb r.z s.planes) t in
-    let second = and_parts (ltb r.y s.height) (ltb r.z s.planes) first.1 in
-    record { column = ltb-true r.x s.width first.0; row = ltb-true r.y s.height second.0; plane = ltb-true r.z s.planes second.1 }
+use Rattle.mesh.specs.Layout.{in_stack}
 
 -- a port that does not lead out leads to a router of the stack
 pub neighbour_within : (s : Sizes) (p : Port) (r : Router) → in_stack s r ≡ true → leads_out s p r ≡ false → in_stack s (neighbour p r) ≡ true

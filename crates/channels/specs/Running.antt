@@ -6,10 +6,9 @@ use Rattle.mesh.specs.declared.refusals.Refusal.TheVariants.{ShortBuffer}
 use Rattle.mesh.specs.declared.stack.Sizes.{Sizes}
 use Rattle.routing_laws.specs.Chains.{Told}
 use Rattle.routing_laws.specs.Plan.{Job, Planned}
-use Rattle.channel_laws.specs.declared.calls.Answer.{Answer}
 use Rattle.channel_laws.specs.declared.calls.Call.{Call}
 use Rattle.channel_laws.specs.declared.records.Record.{Record}
-use Rattle.channel_laws.specs.Calls.{cleared, short_table}
+use Rattle.channel_laws.specs.Calls.{Answer, cleared, short_table}
 use Rattle.channel_laws.specs.Certificate.{Certificate}
 use Rattle.channel_laws.specs.Runs.{events, state_after}
 use Rattle.channel_laws.specs.Table.{State, state}

@@ -3,12 +3,15 @@
 #![tactic(auto)]
 
 mod calls;
-mod codes;
+mod entering;
+mod held;
+mod moving;
 mod permits;
-mod refusing;
 mod runs;
 mod spots;
+mod stacks;
 
-pub use calls::{clear, collect, inject, move_packet, ports};
+pub use calls::clear;
 pub use runs::{run_script, start_run};
-pub use spots::EMPTY;
+pub use spots::table_size;
+pub use stacks::PlannedStack;

@@ -2,12 +2,14 @@
 ghost use Rattle.std.specs.Prelude.{◌≡◌, ◌<◌, ◌≤◌, List, [], ◌++◌, length, drop};
 ghost use Rattle.channel_laws.specs.Calls.{outcome};
 ghost use Rattle.channel_laws.specs.Table.{state};
+ghost use Rattle.channels.specs.Results.{state_of};
 ghost use Rattle.channels.specs.Running.{Certain, Ran, Started, answered, clear_table, ran};
 ghost use Rattle.routing_laws.specs.Plan.{job};
 
-use crate::calls::{clear, collect, inject, move_packet};
+use crate::calls::clear;
 use crate::spots::table_size;
-use channel_laws::{Answer, Call, Record};
+use crate::stacks::PlannedStack;
+use channel_laws::{Answer, Call, Done, Record};
 use mesh::{Refusal, Sizes};
 use planner::plan;
 use routing::{Chooser, Filler, Guide};
@@ -31,60 +33,51 @@ pub fn start_run<C: Chooser, F: Filler<C>>(
     clear(sizes, table)
 }
 
-// Works one call, and replies with what it answered.
-fn work<G: Guide>(
-    guide: &G,
-    sizes: Sizes,
-    map: &[u8],
-    bytes: &[u8],
-    table: &mut [Record],
-    call: Call,
-) -> Answer
-    ensures answers { result ≡ (outcome (G.reply guide.now) (state sizes map.now bytes.now table.old) call).answer }
-    ensures leaves { table.new ≡ (outcome (G.reply guide.now) (state sizes map.now bytes.now table.old) call).after.table }
-{
-    match call {
-        Call::Inject {
-            source,
-            destination,
-            tag,
-        } => match inject(sizes, map, bytes, table, source, destination, tag) {
-            Ok(()) => Answer::Injected,
-            Err(refusal) => Answer::Refused(refusal),
-        },
-        Call::Move {
-            router,
-            buffer,
-            port,
-        } => match move_packet(guide, sizes, map, bytes, table, router, buffer, port) {
-            Ok(()) => Answer::Moved,
-            Err(refusal) => Answer::Refused(refusal),
-        },
-        Call::Collect { router, buffer } => match collect(
-            sizes, map, bytes, table, router, buffer,
-        ) {
-            Ok(record) => Answer::Collected(record),
-            Err(refusal) => Answer::Refused(refusal),
-        },
+impl PlannedStack<'_> {
+    // Works one call, and replies with what it answered.
+    fn work<G: Guide>(&self, guide: &G, table: &mut [Record], call: Call) -> Answer
+        ensures answers { result ≡ (outcome (G.reply guide.now) (state_of self.now table.old) call).answer }
+        ensures leaves { table.new ≡ (outcome (G.reply guide.now) (state_of self.now table.old) call).after.table }
+    {
+        match call {
+            Call::Inject {
+                source,
+                destination,
+                tag,
+            } => {
+                self.inject(table, source, destination, tag)?;
+                Ok(Done::Injected)
+            }
+            Call::Move {
+                router,
+                buffer,
+                port,
+            } => {
+                self.move_packet(guide, table, router, buffer, port)?;
+                Ok(Done::Moved)
+            }
+            Call::Collect { router, buffer } => {
+                let record = self.collect(table, router, buffer)?;
+                Ok(Done::Collected(record))
+            }
+        }
     }
-}
 
-// Works a list of calls one by one, and writes what each answered.
-fn work_all<G: Guide>(
-    guide: &G,
-    sizes: Sizes,
-    map: &[u8],
-    bytes: &[u8],
-    table: &mut [Record],
-    calls: &[Call],
-    answers: &mut [Answer],
-)
-    requires { length calls.now ≤ length answers.old }
-    ensures leaves { table.new ≡ (ran (G.reply guide.now) (state sizes map.now bytes.now table.old) calls.now).table }
-    ensures replies { answers.new ≡ answered (G.reply guide.now) (state sizes map.now bytes.now table.old) calls.now ++ drop (length calls.now) answers.old }
-{
-    for (i, call) in calls.iter().enumerate() {
-        answers[i] = work(guide, sizes, map, bytes, table, *call);
+    // Works a list of calls one by one, and writes what each answered.
+    fn work_all<G: Guide>(
+        &self,
+        guide: &G,
+        table: &mut [Record],
+        calls: &[Call],
+        answers: &mut [Answer],
+    )
+        requires { length calls.now ≤ length answers.old }
+        ensures leaves { table.new ≡ (ran (G.reply guide.now) (state_of self.now table.old) calls.now).table }
+        ensures replies { answers.new ≡ answered (G.reply guide.now) (state_of self.now table.old) calls.now ++ drop (length calls.now) answers.old }
+    {
+        for (i, call) in calls.iter().enumerate() {
+            answers[i] = self.work(guide, table, *call);
+        }
     }
 }
 
@@ -106,7 +99,7 @@ pub fn run_script<C: Chooser, F: Filler<C>>(
         return Err(Refusal::ShortBuffer);
     }
     start_run(sizes, map, filler, chooser, bytes, table)?;
-    let guide = filler.guide();
-    work_all(&guide, sizes, map, bytes, table, calls, answers);
+    let stack = PlannedStack { sizes, map, bytes };
+    stack.work_all(&filler.guide(), table, calls, answers);
     Ok(())
 }

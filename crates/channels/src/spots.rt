@@ -1,57 +1,18 @@
-// Routers and their places in the table.
-ghost use Rattle.std.specs.Prelude.{◌≡◌, ◌<◌, ◌≤◌, true};
-ghost use Rattle.channel_laws.specs.Ports.{leads_out, neighbour, same_router};
-ghost use Rattle.channel_laws.specs.Table.{empty, in_stack, is_empty, place_of, record_number, router_at, table_size};
+// The records of a table, and the ports that lead out of a stack.
+ghost use Rattle.std.specs.Prelude.{◌≡◌, ◌<◌, true};
+ghost use Rattle.mesh.specs.Layout.{in_stack};
+ghost use Rattle.channel_laws.specs.Ports.{leads_out};
+ghost use Rattle.channel_laws.specs.Table.{record_number, table_size};
 
-use crate::codes::buffer_number;
-use channel_laws::{Buffer, Port, Record};
+use channel_laws::{Buffer, Port};
 use mesh::{Direction, Place, Router, Sizes, Way};
-
-// The number of buffers of a router.
-const BUFFERS: usize = 11;
-
-// The record of an empty buffer.
-pub const EMPTY: Record = Record {
-    tag: 0,
-    moves: 0,
-    mark: 0,
-    source: Router { x: 0, y: 0, z: 0 },
-    destination: Router { x: 0, y: 0, z: 0 },
-};
-
-pub(crate) fn in_stack(sizes: Sizes, router: Router) -> bool
-    ensures { result ≡ in_stack sizes router }
-{
-    router.x < sizes.width && router.y < sizes.height && router.z < sizes.planes
-}
-
-pub(crate) fn same_router(first: Router, second: Router) -> bool
-    ensures { result ≡ same_router first second }
-{
-    first.x == second.x && first.y == second.y && first.z == second.z
-}
-
-pub(crate) fn place_of(router: Router) -> Place
-    ensures { result ≡ place_of router }
-{
-    Place {
-        x: router.x,
-        y: router.y,
-    }
-}
-
-pub(crate) fn is_empty(record: Record) -> bool
-    ensures { result ≡ is_empty «record» }
-{
-    record.mark == 0
-}
 
 // The number of records of a table.
 #[tactic(auto, unfolding(channel_laws::specs::Table::table_size))]
-pub(crate) fn table_size(sizes: Sizes) -> usize
+pub fn table_size(sizes: Sizes) -> usize
     ensures { result ≡ table_size sizes }
 {
-    BUFFERS * sizes.routers()
+    Buffer::COUNT * sizes.routers()
 }
 
 // The number of the record of a router's buffer.
@@ -60,7 +21,7 @@ pub(crate) fn record_number(sizes: Sizes, router: Router, buffer: Buffer) -> usi
     ensures value { result ≡ record_number sizes router buffer }
     ensures below { result < table_size sizes }
 {
-    BUFFERS * sizes.index(router.z, place_of(router)) + buffer_number(buffer)
+    Buffer::COUNT * sizes.index(router.z, Place::from(router)) + buffer.number()
 }
 
 // Whether a port leads out of the stack.

@@ -13,24 +13,15 @@ fn distance(a: usize, b: usize) -> usize {
     across.saturating_add(along)
 }
 
-fn least_distance(links: &[u8], place: usize) -> usize {
-    let mut least = usize::MAX;
-    for (i, link) in links.iter().enumerate() {
-        if *link == 1 {
-            least = least.min(distance(i, place));
-        }
-    }
-    least
-}
-
-fn last_at(links: &[u8], place: usize, least: usize) -> usize {
-    let mut last = place;
-    for (i, link) in links.iter().enumerate() {
-        if *link == 1 && distance(i, place) == least {
-            last = i;
-        }
-    }
-    last
+// The last place with a link whose distance is the smallest, or the place itself where there is no link.
+fn last_nearest(links: &[u8], place: usize) -> usize {
+    let linked = |i: &usize| links.get(*i) == Some(&1);
+    // The first of them from the end is the last.
+    let nearest = (0..links.len())
+        .rev()
+        .filter(linked)
+        .min_by_key(|i| distance(*i, place));
+    nearest.unwrap_or(place)
 }
 
 // North is 1, East 2, South 4 and West 8.
@@ -56,7 +47,7 @@ fn half(links: &[u8], place: usize) -> u8 {
     if links.is_empty() {
         return 0;
     }
-    pointing(place, last_at(links, place, least_distance(links, place)))
+    pointing(place, last_nearest(links, place))
 }
 
 // Compares a plane's bytes with the links above it and below it; no links where there is no gap.

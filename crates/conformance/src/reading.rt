@@ -2,55 +2,43 @@
 use crate::samples::{SAMPLE, largest_unfinished};
 use description::read;
 use description_laws::Layer;
+use mesh::{MAP_BYTES, Refusal};
 use std::process::Abort;
 use std::test::Fail;
 
-// The shortest map that suffices, one that does not, and one with room beyond.
-const MAP: usize = 4_032;
-
+// A map one byte too short, and one with room beyond.
 const MAP_LESS: usize = 4_031;
 
 const ROOM: usize = 4_050;
 
-fn fits(layer: Layer, number: u8) -> bool {
-    match layer {
-        Layer::Byte => number == 1,
-        Layer::Record => number == 2 || number == 3,
-        Layer::Stack => number > 3,
+// The layer that finds a refusal.
+fn layer_for(refusal: Refusal) -> Layer {
+    match refusal {
+        Refusal::InputEnds => Layer::Byte,
+        Refusal::UnknownLetter | Refusal::OutOfRange => Layer::Record,
+        _ => Layer::Stack,
     }
 }
 
 fn all(bytes: &[u8], value: u8) -> bool {
-    for byte in bytes {
-        if *byte != value {
-            return false;
-        }
-    }
-    true
+    bytes.iter().all(|byte| *byte == value)
 }
 
 // Whether the bytes are 1 at these indices and 0 elsewhere.
 fn marks(bytes: &[u8], links: &[usize]) -> bool {
-    for (i, byte) in bytes.iter().enumerate() {
-        let mark = if links.contains(&i) { 1 } else { 0 };
-        if *byte != mark {
-            return false;
-        }
-    }
-    true
+    let marked = |(i, byte): (usize, &u8)| *byte == u8::from(links.contains(&i));
+    bytes.iter().enumerate().all(marked)
 }
 
 // Reads into a map that was used before, and expects a fault that leaves all of it 0.
-fn refused(rt: &impl Abort, input: &[u8], number: u8, place: usize) -> Result<(), Fail> {
+fn refused(rt: &impl Abort, input: &[u8], refusal: Refusal, place: usize) -> Result<(), Fail> {
     let mut map = [7; ROOM];
-    let answer = read(input, &mut map);
-    assert!(rt; answer.is_err(), "accepted {input:?}");
-    let Err(fault) = answer else {
-        return Err(Fail::new("accepted"));
+    let Err(fault) = read(input, &mut map) else {
+        return Err(Fail::new(format_args!("accepted {input:?}")));
     };
-    assert_eq!(rt; fault.refusal().number(), number, "number of {input:?}");
+    assert_eq!(rt; fault.refusal(), refusal, "refusal of {input:?}");
     assert_eq!(rt; fault.place(), place, "place of {input:?}");
-    assert!(rt; fits(fault.layer(), number), "layer of {input:?}");
+    assert_eq!(rt; fault.layer(), layer_for(refusal), "layer of {input:?}");
     assert!(rt; all(&map, 0), "map of {input:?}");
     Ok(())
 }
@@ -117,61 +105,97 @@ const OUT_OF_PLACE: [(&[u8], usize); 14] = [
 ];
 
 // The other refusals, and those that come first where two apply.
-const OTHERS: [(&[u8], u8, usize); 22] = [
-    (b"", 1, 0),
-    (b"S\x00\x19", 1, 0),
-    (b"O\x02\x02\x02", 1, 0),
-    (b"S\x03\x03\x02S\x03\x03", 1, 4),
-    (b"S\x03\x03\x02x", 2, 4),
-    (b"S\x03\x03\x02O\x01\x00\x01\x00l\x00\x00\x00Z", 2, 9),
-    (b"S\x03\x03\x02O\x01\x00\x01\x00L\x00\x00\x00\x00", 2, 13),
-    (b"S\x03\x03\x02S\x03\x03\x09", 3, 4),
-    (b"S\x03\x03\x02O\x00\x00\x00\x00", 5, 4),
-    (b"S\x03\x03\x02O\x01\x01\x01\x01Z", 5, 4),
-    (b"S\x03\x03\x02O\x01\x00\x01\x00L\x03\x00\x00", 6, 9),
-    (b"S\x03\x03\x02O\x01\x00\x01\x00L\x00\x03\x00", 6, 9),
-    (b"S\x03\x03\x02O\x01\x00\x01\x00L\x00\x00\x01", 6, 9),
-    (b"S\x03\x03\x01O\x01\x00\x01\x00L\x00\x00\x00Z", 6, 9),
+const OTHERS: [(&[u8], Refusal, usize); 22] = [
+    (b"", Refusal::InputEnds, 0),
+    (b"S\x00\x19", Refusal::InputEnds, 0),
+    (b"O\x02\x02\x02", Refusal::InputEnds, 0),
+    (b"S\x03\x03\x02S\x03\x03", Refusal::InputEnds, 4),
+    (b"S\x03\x03\x02x", Refusal::UnknownLetter, 4),
+    (
+        b"S\x03\x03\x02O\x01\x00\x01\x00l\x00\x00\x00Z",
+        Refusal::UnknownLetter,
+        9,
+    ),
+    (
+        b"S\x03\x03\x02O\x01\x00\x01\x00L\x00\x00\x00\x00",
+        Refusal::UnknownLetter,
+        13,
+    ),
+    (b"S\x03\x03\x02S\x03\x03\x09", Refusal::OutOfRange, 4),
+    (b"S\x03\x03\x02O\x00\x00\x00\x00", Refusal::OneSet, 4),
+    (b"S\x03\x03\x02O\x01\x01\x01\x01Z", Refusal::OneSet, 4),
+    (
+        b"S\x03\x03\x02O\x01\x00\x01\x00L\x03\x00\x00",
+        Refusal::LinkOutside,
+        9,
+    ),
+    (
+        b"S\x03\x03\x02O\x01\x00\x01\x00L\x00\x03\x00",
+        Refusal::LinkOutside,
+        9,
+    ),
+    (
+        b"S\x03\x03\x02O\x01\x00\x01\x00L\x00\x00\x01",
+        Refusal::LinkOutside,
+        9,
+    ),
+    (
+        b"S\x03\x03\x01O\x01\x00\x01\x00L\x00\x00\x00Z",
+        Refusal::LinkOutside,
+        9,
+    ),
     // Counted on past its row's end, (3, 0) would have the byte of (0, 1).
     (
         b"S\x03\x03\x02O\x01\x00\x01\x00L\x00\x01\x00L\x03\x00\x00Z",
-        6,
+        Refusal::LinkOutside,
         13,
     ),
     (
         b"S\x03\x03\x02O\x01\x00\x01\x00L\x00\x00\x00L\x00\x00\x00Z",
-        7,
+        Refusal::LinkTwice,
         13,
     ),
     (
         b"S\x03\x03\x03O\x01\x00\x01\x00L\x02\x01\x00L\x00\x00\x00L\x02\x01\x00Z",
-        7,
+        Refusal::LinkTwice,
         17,
     ),
-    (b"S\x03\x03\x02O\x01\x00\x01\x00Z", 8, 9),
-    (b"S\x03\x03\x02O\x01\x00\x01\x00ZZ", 8, 9),
-    (b"S\x03\x03\x03O\x01\x00\x01\x00L\x00\x00\x00Z", 8, 13),
-    (b"S\x03\x03\x03O\x01\x00\x01\x00L\x00\x00\x01Z", 8, 13),
-    (b"S\x01\x01\x01O\x01\x00\x01\x00Z\x00", 4, 10),
+    (b"S\x03\x03\x02O\x01\x00\x01\x00Z", Refusal::GapUnlinked, 9),
+    (b"S\x03\x03\x02O\x01\x00\x01\x00ZZ", Refusal::GapUnlinked, 9),
+    (
+        b"S\x03\x03\x03O\x01\x00\x01\x00L\x00\x00\x00Z",
+        Refusal::GapUnlinked,
+        13,
+    ),
+    (
+        b"S\x03\x03\x03O\x01\x00\x01\x00L\x00\x00\x01Z",
+        Refusal::GapUnlinked,
+        13,
+    ),
+    (
+        b"S\x01\x01\x01O\x01\x00\x01\x00Z\x00",
+        Refusal::OutOfPlace,
+        10,
+    ),
 ];
 
 #[test]
 fn refusals_by_number_and_place(rt: HostRuntime) -> Result<(), Fail> {
     for (input, place) in OUT_OF_RANGE {
-        refused(&rt, input, 3, place)?;
+        refused(&rt, input, Refusal::OutOfRange, place)?;
     }
     for (input, place) in OUT_OF_PLACE {
-        refused(&rt, input, 4, place)?;
+        refused(&rt, input, Refusal::OutOfPlace, place)?;
     }
-    for (input, number, place) in OTHERS {
-        refused(&rt, input, number, place)?;
+    for (input, refusal, place) in OTHERS {
+        refused(&rt, input, refusal, place)?;
     }
     Ok(())
 }
 
 fn cuts_are_refused(rt: &impl Abort, sample: &[u8]) -> Result<(), Fail> {
     for len in 0..sample.len() {
-        refused(rt, &sample[0..len], 1, unfinished(len))?;
+        refused(rt, &sample[0..len], Refusal::InputEnds, unfinished(len))?;
     }
     Ok(())
 }
@@ -182,28 +206,28 @@ fn a_sample_cut_short_ends_in_its_last_record(rt: HostRuntime) -> Result<(), Fai
 }
 
 // What a letter alone is refused with.
-fn letter_number(letter: u8) -> u8 {
+fn letter_refusal(letter: u8) -> Refusal {
     match letter {
-        b'S' | b'O' | b'L' => 1,
-        b'Z' => 4,
-        _ => 2,
+        b'S' | b'O' | b'L' => Refusal::InputEnds,
+        b'Z' => Refusal::OutOfPlace,
+        _ => Refusal::UnknownLetter,
     }
 }
 
 #[test]
 fn every_byte_first_and_after_the_end(rt: HostRuntime) -> Result<(), Fail> {
     for letter in 0..=255u8 {
-        refused(&rt, &[letter], letter_number(letter), 0)?;
+        refused(&rt, &[letter], letter_refusal(letter), 0)?;
         let mut input = [letter; 19];
         input[0..18].copy_from_slice(SAMPLE);
-        refused(&rt, &input, 4, 18)?;
+        refused(&rt, &input, Refusal::OutOfPlace, 18)?;
     }
     Ok(())
 }
 
 // What the sample says besides its links, read into the shortest map.
 fn sample_is_understood(rt: &impl Abort) -> Result<(), Fail> {
-    let mut map = [7; MAP];
+    let mut map = [7; MAP_BYTES];
     let Ok(description) = read(SAMPLE, &mut map) else {
         return Err(Fail::new("refused"));
     };
@@ -221,9 +245,9 @@ fn short_map_is_refused(rt: &impl Abort, input: &[u8]) -> Result<(), Fail> {
     let Err(fault) = read(input, &mut map) else {
         return Err(Fail::new("accepted"));
     };
-    assert_eq!(rt; fault.refusal().number(), 9);
+    assert_eq!(rt; fault.refusal(), Refusal::ShortBuffer);
     assert_eq!(rt; fault.place(), 0);
-    assert!(rt; fits(fault.layer(), 9), "layer");
+    assert_eq!(rt; fault.layer(), Layer::Stack);
     assert!(rt; all(&map, 7), "map");
     Ok(())
 }
@@ -248,15 +272,15 @@ fn maps_long_enough_hold_the_links(rt: HostRuntime) -> Result<(), Fail> {
 fn the_largest_description_and_no_more(rt: HostRuntime) -> Result<(), Fail> {
     let mut text = largest_unfinished(rt.alloc())?;
     assert_eq!(rt; text.len(), 16_137);
-    refused(&rt, &text, 1, 16_137)?;
+    refused(&rt, &text, Refusal::InputEnds, 16_137)?;
     text.push(b'Z')?;
-    let mut map = [7; MAP];
+    let mut map = [7; MAP_BYTES];
     assert!(rt; read(&text, &mut map).is_ok());
     assert!(rt; all(&map, 1));
     text.push(b'Z')?;
-    refused(&rt, &text, 4, 16_138)?;
+    refused(&rt, &text, Refusal::OutOfPlace, 16_138)?;
     text.truncate(16_137);
     text.extend_from_slice(b"L\x17\x17\x06Z")?;
     assert_eq!(rt; text.len(), 16_142);
-    refused(&rt, &text, 7, 16_137)
+    refused(&rt, &text, Refusal::LinkTwice, 16_137)
 }

@@ -14,12 +14,10 @@ pub(crate) const SAMPLE_PLAN: [u8; 18] = [
 
 // Whether a buffer of 7s now begins so, and is 7 beyond.
 pub(crate) fn begins(buffer: &[u8], front: &[u8]) -> bool {
-    for (i, byte) in buffer.iter().enumerate() {
-        if *byte != front.get(i).copied().unwrap_or(7) {
-            return false;
-        }
+    match buffer.strip_prefix(front) {
+        Some(beyond) => beyond.iter().all(|byte| *byte == 7),
+        None => false,
     }
-    true
 }
 
 // East and West first.

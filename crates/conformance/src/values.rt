@@ -1,66 +1,52 @@
 // Sizes and turn orders exist only in range.
-use mesh::{Sizes, TurnOrder};
+use mesh::{Refusal, Sizes, TurnOrder};
 
-// The number that sizes are refused with, and 0 for those that are made as asked.
-fn sizes_number(width: u8, height: u8, planes: u8) -> u8 {
-    match Sizes::new(width, height, planes) {
-        Ok(sizes) if sizes.width == width && sizes.height == height && sizes.planes == planes => 0,
-        Ok(_) => u8::MAX,
-        Err(refusal) => refusal.number(),
-    }
+// The columns, rows and planes of sizes that are made.
+fn sizes(width: u8, height: u8, planes: u8) -> Result<(u8, u8, u8), Refusal> {
+    let sizes = Sizes::new(width, height, planes)?;
+    Ok((sizes.width, sizes.height, sizes.planes))
 }
 
-// The same of turn orders.
-fn order_number(north: u8, east: u8, south: u8, west: u8) -> u8 {
-    match TurnOrder::new(north, east, south, west) {
-        Ok(order) if order.north == north && order.east == east => {
-            if order.south == south && order.west == west {
-                0
-            } else {
-                u8::MAX
-            }
-        }
-        Ok(_) => u8::MAX,
-        Err(refusal) => refusal.number(),
-    }
+// The sets of a turn order that is made.
+fn sets(north: u8, east: u8, south: u8, west: u8) -> Result<[u8; 4], Refusal> {
+    let order = TurnOrder::new(north, east, south, west)?;
+    Ok([order.north, order.east, order.south, order.west])
 }
 
-fn expected(value: u8, most: u8) -> u8 {
-    if 1 <= value && value <= most { 0 } else { 3 }
+// What is made as asked where a value is in range.
+fn expected<T: Drop>(made: T, value: u8, most: u8) -> Result<T, Refusal> {
+    if (1..=most).contains(&value) {
+        Ok(made)
+    } else {
+        Err(Refusal::OutOfRange)
+    }
 }
 
 #[test]
 fn sizes_from_one_to_their_limits(rt: HostRuntime) {
     for value in 0..=255u8 {
-        assert_eq!(rt;
-            sizes_number(value, 24, 8),
-            expected(value, 24),
-            "{}",
-            value
-        );
-        assert_eq!(rt; sizes_number(1, value, 1), expected(value, 24), "{}", value);
-        assert_eq!(rt;
-            sizes_number(24, 24, value),
-            expected(value, 8),
-            "{}",
-            value
-        );
+        let columns = expected((value, 24, 8), value, 24);
+        assert_eq!(rt; sizes(value, 24, 8), columns, "{}", value);
+        let rows = expected((1, value, 1), value, 24);
+        assert_eq!(rt; sizes(1, value, 1), rows, "{}", value);
+        let planes = expected((24, 24, value), value, 8);
+        assert_eq!(rt; sizes(24, 24, value), planes, "{}", value);
     }
 }
 
 #[test]
 fn turn_orders_of_two_sets(rt: HostRuntime) {
     for above in 2..=255u8 {
-        assert_eq!(rt; order_number(above, 0, 0, 1), 3);
-        assert_eq!(rt; order_number(0, above, 0, 1), 3);
-        assert_eq!(rt; order_number(0, 1, above, 0), 3);
-        assert_eq!(rt; order_number(0, 1, 0, above), 3);
-        assert_eq!(rt; order_number(above, above, above, above), 3);
+        assert_eq!(rt; sets(above, 0, 0, 1), Err(Refusal::OutOfRange));
+        assert_eq!(rt; sets(0, above, 0, 1), Err(Refusal::OutOfRange));
+        assert_eq!(rt; sets(0, 1, above, 0), Err(Refusal::OutOfRange));
+        assert_eq!(rt; sets(0, 1, 0, above), Err(Refusal::OutOfRange));
+        assert_eq!(rt; sets(above, above, above, above), Err(Refusal::OutOfRange));
     }
-    assert_eq!(rt; order_number(0, 0, 0, 0), 5);
-    assert_eq!(rt; order_number(1, 1, 1, 1), 5);
-    assert_eq!(rt; order_number(0, 0, 0, 1), 0);
-    assert_eq!(rt; order_number(1, 0, 0, 0), 0);
-    assert_eq!(rt; order_number(1, 0, 1, 0), 0);
-    assert_eq!(rt; order_number(1, 1, 0, 1), 0);
+    assert_eq!(rt; sets(0, 0, 0, 0), Err(Refusal::OneSet));
+    assert_eq!(rt; sets(1, 1, 1, 1), Err(Refusal::OneSet));
+    assert_eq!(rt; sets(0, 0, 0, 1), Ok([0, 0, 0, 1]));
+    assert_eq!(rt; sets(1, 0, 0, 0), Ok([1, 0, 0, 0]));
+    assert_eq!(rt; sets(1, 0, 1, 0), Ok([1, 0, 1, 0]));
+    assert_eq!(rt; sets(1, 1, 0, 1), Ok([1, 1, 0, 1]));
 }

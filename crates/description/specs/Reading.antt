@@ -1,6 +1,6 @@
 -- What the reader answers, and what holds on its way.
-use Rattle.std.specs.Prelude.{◌≡◌, ℕ, ◌+◌, ◌*◌, ◌<◌, List, ◌++◌, length, replicate, Ok, Err, Result, ◌≢◌, slice_index}
-use Rattle.std.specs.List.{between, ContainsAt as Has}
+use Rattle.std.specs.Prelude.{◌≡◌, ℕ, ◌<◌, List, ◌++◌, length, replicate, Ok, Err, Result, ◌≢◌, slice_index}
+use Rattle.std.specs.List.{Contains}
 use Rattle.mesh.specs.declared.grid.Link.{Link}
 use Rattle.mesh.specs.declared.stack.Sizes.{Sizes}
 use Rattle.mesh.specs.declared.turns.TurnOrder.{TurnOrder}
@@ -25,12 +25,8 @@ spot e l = cell e.width e.height l.gap record { x = l.x; y = l.y }
 
 -- a link map with 1 where a link lies, and 0 everywhere else
 pub record Marked (e : Extent) (ls : List Link) (marks : List ℕ) : Type 0 where
-  pub linked : (l : Link) → Has ls l → slice_index marks (spot e l) ≡ 1
-  pub bare : (i : ℕ) → i < length marks → ((l : Link) → Has ls l → spot e l ≢ i) → slice_index marks i ≡ 0
-
--- a gap has a mark in the link map, where each gap takes `area` bytes
-abbrev pub Shown : ℕ → List ℕ → ℕ → Type 0
-Shown area marks g = Has (between (g * area) ((g + 1) * area) marks) 1
+  pub linked : (l : Link) → Contains ls l → slice_index marks (spot e l) ≡ 1
+  pub bare : (i : ℕ) → i < length marks → ((l : Link) → Contains ls l → spot e l ≢ i) → slice_index marks i ≡ 0
 
 -- bytes that describe a stack, and its link map
 pub record Described (bytes : List ℕ) (d : Description) (marks : List ℕ) : Type 0 where

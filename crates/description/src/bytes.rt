@@ -1,4 +1,5 @@
-// The byte layer: letters and bodies from the front of the input. `place` is where their record starts.
+// The byte layer: letters and bodies from the front of the input. `place` is where their record
+// starts: it stands only in a fault, and so beside the input and not in a struct with it.
 ghost use Rattle.std.specs.Prelude.{◌≡◌, ◌<◌, ◌∷◌, ◌++◌, length, MatchResult};
 ghost use Rattle.description.specs.Bodies.{extent_body, link_body, sets_body};
 
@@ -14,6 +15,7 @@ pub(crate) fn letter(input: &[u8], place: usize) -> Result<(char, &[u8]), ByteFa
     }
 }
 
+// A body is split by a slice pattern that names its fields: so each kind of record has a function of its own.
 pub(crate) fn sizes_body(body: &[u8], place: usize) -> Result<(Extent, &[u8]), ByteFault>
     ensures { MatchResult result (λ v. body.now ≡ extent_body v.0 ++ v.1.now) (λ f. (f.place ≡ place) × (length body.now < 3)) }
 {

@@ -3,6 +3,7 @@
 #![tactic(auto)]
 
 mod bytes;
+mod cursor;
 mod reader;
 mod records;
 

@@ -5,26 +5,22 @@ ghost use Rattle.description.specs.Unread.{Unreadable};
 
 use crate::bytes::{letter, link_body, order_body, sizes_body};
 use description_laws::{Record, RecordFault};
-use mesh::{LAST_SET, Refusal, Sizes};
-
-const LAST_COLUMN: u8 = 23;
-
-const LAST_ROW: u8 = 23;
-
-const LAST_GAP: u8 = 6;
+use mesh::{LAST_SET, MOST_COLUMNS, MOST_PLANES, MOST_ROWS, Refusal, Sizes};
 
 fn in_range(record: Record) -> bool
     ensures { Decides result (InRange «record») }
 {
     match record {
-        Record::Stack(extent) => Sizes::new(extent.width, extent.height, extent.planes).is_ok(),
+        Record::Stack(extent) => Sizes::try_from(extent).is_ok(),
         Record::Order(sets) => {
             sets.north <= LAST_SET
                 && sets.east <= LAST_SET
                 && sets.south <= LAST_SET
                 && sets.west <= LAST_SET
         }
-        Record::Pillar(link) => link.x <= LAST_COLUMN && link.y <= LAST_ROW && link.gap <= LAST_GAP,
+        Record::Pillar(link) => {
+            link.x < MOST_COLUMNS && link.y < MOST_ROWS && link.gap < MOST_PLANES - 1
+        }
         Record::End => true,
     }
 }

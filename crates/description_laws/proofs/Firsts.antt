@@ -1,6 +1,6 @@
 -- Which refusal of a record is tried first: what has been tested and holds leaves only refusals of greater numbers.
 use Rattle.std.proofs.Common.{◌≤◌, List, arith}
-use Rattle.std.specs.List.{ContainsAt as Has}
+use Rattle.std.specs.List.{Contains}
 use Rattle.mesh.specs.declared.grid.Link.{Link}
 use Rattle.mesh.specs.declared.refusals.Refusal.{Refusal}
 use Rattle.mesh.specs.declared.refusals.Refusal.TheVariants.{OutOfRange, OutOfPlace, OneSet, LinkOutside, LinkTwice, GapUnlinked}
@@ -53,7 +53,7 @@ module _ {e : Extent} {s : SetNumbers} {ls : List Link} where
   pub first_outside : {l : Link} → InRange (Pillar l) → (Within e l → ⊥) → First (listing e s ls) (Pillar l) LinkOutside
   first_outside i n = record { applies = outside n; least = λ y. link_in_place i }
 
-  pub first_twice : {l : Link} → InRange (Pillar l) → Within e l → Has ls l → First (listing e s ls) (Pillar l) LinkTwice
+  pub first_twice : {l : Link} → InRange (Pillar l) → Within e l → Contains ls l → First (listing e s ls) (Pillar l) LinkTwice
   first_twice i w h = record { applies = twice h; least = λ y. link_within i w }
 
   pub first_unlinked : {g : _} → Gap e g → (Linked ls g → ⊥) → First (listing e s ls) End GapUnlinked

@@ -1,8 +1,8 @@
 -- No bytes have two readings: two fronts that grow over the same bytes take the same records, one by one, and stop
 -- where no record fits.
 use Rattle.std.proofs.Common.{◌≡◌, ℕ, suc, ◌<◌, cond, eqb, List, [], ◌∷◌, ◌++◌, length, get_or, drop, sym, refl, ap, ◌∙◌, subst, append_assoc, append-nil, arith}
-use Rattle.std.specs.List.{ContainsAt as Has}
-use Rattle.std.proofs.ByRecursion.{has_append_right}
+use Rattle.std.specs.List.{Contains}
+use Rattle.std.proofs.lemmas.List.Elements.{Contains-append_right}
 use Rattle.mesh.specs.declared.grid.Link.{Link}
 use Rattle.mesh.specs.declared.refusals.Refusal.{Refusal}
 use Rattle.mesh.specs.declared.refusals.Refusal.TheVariants.{OutOfRange, OutOfPlace, OneSet, LinkOutside, LinkTwice, GapUnlinked}
@@ -89,7 +89,7 @@ recordless n r d e = not_whole n (subst Whole (sym e) (whole r d))
 data Fits : Front → Record → Front → Type 0 where
   fits_first : {e : Extent} → InRange (Stack e) → Fits nothing (Stack e) (sized e)
   fits_second : {e : Extent} {s : SetNumbers} → InRange (Order s) → (OneForAll s → ⊥) → Fits (sized e) (Order s) (listing e s [])
-  fits_link : {e : Extent} {s : SetNumbers} {ls : List Link} {l : Link} → InRange (Pillar l) → Within e l → (Has ls l → ⊥) → Fits (listing e s ls) (Pillar l) (listing e s (ls ++ l ∷ []))
+  fits_link : {e : Extent} {s : SetNumbers} {ls : List Link} {l : Link} → InRange (Pillar l) → Within e l → (Contains ls l → ⊥) → Fits (listing e s ls) (Pillar l) (listing e s (ls ++ l ∷ []))
   fits_last : {e : Extent} {s : SetNumbers} {ls : List Link} → ((g : ℕ) → Gap e g → Linked ls g) → Fits (listing e s ls) End (ended e s ls)
 
 same_next : {f g h : Front} {r : Record} → Fits f r g → Fits f r h → g ≡ h
@@ -126,7 +126,7 @@ near k w = let z = k.sizes in (omega arith, omega arith, omega arith)
 links : {e : Extent} {s : SetNumbers} (before after : List Link) {b : List ℕ} {g : Front} → Sound e s (before ++ after) → Grows (listing e s (before ++ after)) b g → Grows (listing e s before) (spelled_links after ++ b) g
 links before [] k t = rw append-nil at t
 links {e} {s} before (l ∷ after) {b} {g} k t =
-    let here : Has (before ++ l ∷ after) l = has_append_right before (l ∷ after) l (0, omega arith, λ d. refl) in
+    let here : Contains (before ++ l ∷ after) l = Contains-append_right before (l ∷ after) l (0, omega arith, refl) in
     let w = k.inside l here in
     more
     (fits_link (near k w) w (k.once before after l refl))

@@ -1,6 +1,6 @@
 -- Which bytes describe a stack, and what the first fault of any other bytes is.
 use Rattle.std.specs.Prelude.{◌≡◌, ℕ, ◌+◌, ◌<◌, ◌≤◌, List, [], ◌∷◌, ◌++◌, length}
-use Rattle.std.specs.List.{flat_map, ContainsAt as Has}
+use Rattle.std.specs.List.{flat_map, Contains}
 use Rattle.mesh.specs.declared.grid.Link.{Link}
 use Rattle.mesh.specs.declared.refusals.Refusal.{Refusal}
 use Rattle.mesh.specs.declared.refusals.Refusal.TheVariants.{InputEnds, UnknownLetter, OutOfRange, OutOfPlace, OneSet, LinkOutside, LinkTwice, GapUnlinked}
@@ -53,18 +53,18 @@ pub record Within (e : Extent) (l : Link) : Type 0 where
 
 -- a gap has a link
 abbrev pub Linked : List Link → ℕ → Type 0
-Linked ls g = (l : Link) × Has ls l × (l.gap ≡ g)
+Linked ls g = (l : Link) × Contains ls l × (l.gap ≡ g)
 
 -- no link is named twice
 abbrev pub Once : List Link → Type 0
-Once ls = (before after : List Link) (l : Link) → ls ≡ before ++ l ∷ after → Has before l → ⊥
+Once ls = (before after : List Link) (l : Link) → ls ≡ before ++ l ∷ after → Contains before l → ⊥
 
 -- sizes, sets and links that belong together
 pub record Sound (e : Extent) (s : SetNumbers) (ls : List Link) : Type 0 where
   pub sizes : InRange (Stack e)
   pub sets : InRange (Order s)
   pub mixed : OneForAll s → ⊥
-  pub inside : (l : Link) → Has ls l → Within e l
+  pub inside : (l : Link) → Contains ls l → Within e l
   pub once : Once ls
 
 -- bytes that describe a stack: S, O, the links in any order, Z; and every gap has a link
@@ -107,7 +107,7 @@ pub data Wrong : Front → Record → Refusal → Type 0 where
   place : {f : Front} {r : Record} → (InPlace f r → ⊥) → Wrong f r OutOfPlace
   one_set : {f : Front} {s : SetNumbers} → OneForAll s → Wrong f (Order s) OneSet
   outside : {e : Extent} {s : SetNumbers} {ls : List Link} {l : Link} → (Within e l → ⊥) → Wrong (listing e s ls) (Pillar l) LinkOutside
-  twice : {e : Extent} {s : SetNumbers} {ls : List Link} {l : Link} → Has ls l → Wrong (listing e s ls) (Pillar l) LinkTwice
+  twice : {e : Extent} {s : SetNumbers} {ls : List Link} {l : Link} → Contains ls l → Wrong (listing e s ls) (Pillar l) LinkTwice
   unlinked : {e : Extent} {s : SetNumbers} {ls : List Link} (g : ℕ) → Gap e g → (Linked ls g → ⊥) → Wrong (listing e s ls) End GapUnlinked
 
 -- of the refusals that apply, the one tried first: they are tried in the order of their numbers

@@ -14,18 +14,18 @@ pub enum Layer {
 }
 
 // The input ends within the record that starts at `place`, or before it.
-#[derive(Clone, Copy)]
+#[derive(Clone, Copy, PartialEq, Eq, Debug)]
 pub struct ByteFault {
     pub place: usize,
 }
 
-#[derive(Clone, Copy)]
+#[derive(Clone, Copy, PartialEq, Eq, Debug)]
 pub enum RecordFault {
     Ends(ByteFault),
     Record { refusal: Refusal, place: usize },
 }
 
-#[derive(Clone, Copy)]
+#[derive(Clone, Copy, PartialEq, Eq, Debug)]
 pub enum StackFault {
     Unread(RecordFault),
     Stack { refusal: Refusal, place: usize },

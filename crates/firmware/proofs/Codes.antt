@@ -1,14 +1,10 @@
 -- A result's number is that of its answer.
 use Rattle.std.proofs.Common.{◌≡◌, Ok, Err, Result, refl}
 use Rattle.mesh.specs.declared.refusals.Refusal.{Refusal}
-use Rattle.channels.specs.Results.{inject_answer, move_answer}
+use Rattle.channel_laws.specs.declared.calls.Done.{Done}
+use Rattle.channels.specs.Results.{answer_by}
 use Rattle.firmware.specs.Opening.{code}
-use Rattle.firmware.specs.Tables.{answer_code}
 
-pub inject_code : (r : Result (Unit {0}) Refusal) → code r ≡ answer_code (inject_answer r)
-inject_code (Ok x) = refl
-inject_code (Err x) = refl
-
-pub move_code : (r : Result (Unit {0}) Refusal) → code r ≡ answer_code (move_answer r)
-move_code (Ok x) = refl
-move_code (Err x) = refl
+pub code_by : {A : Type 0} (done : A → Done) (r : Result A Refusal) → code r ≡ code (answer_by done r)
+code_by done (Ok x) = refl
+code_by done (Err x) = refl

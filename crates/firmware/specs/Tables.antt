@@ -1,25 +1,17 @@
 -- What the calls on a table answer and hand to C.
 use Rattle.std.specs.Prelude.{ℕ, ◌+◌, Bool, cond, Ok, Err, Result}
 use Rattle.mesh.specs.declared.refusals.Refusal.{Refusal}
-use Rattle.mesh.specs.Numbers.{number_of}
 use Rattle.channel_laws.specs.declared.buffers.Ports.{Ports}
-use Rattle.channel_laws.specs.declared.calls.Answer.{Answer}
-use Rattle.channel_laws.specs.declared.calls.Answer.TheVariants.{Collected, Injected, Moved, Refused}
+use Rattle.channel_laws.specs.declared.calls.Done.TheVariants.{Collected, Injected, Moved}
 use Rattle.channel_laws.specs.declared.records.Record.{Record}
-
--- 0 for an accepted call, or the refusal's number
-abbrev pub answer_code : Answer → ℕ
-answer_code Injected = 0
-answer_code Moved = 0
-answer_code (Collected x) = 0
-answer_code (Refused x) = number_of x
+use Rattle.channel_laws.specs.Calls.{Answer}
 
 -- what a collect leaves in the place for its packet: the packet, or what was there
 abbrev pub handed : Record → Answer → Record
-handed old Injected = old
-handed old Moved = old
-handed old (Collected x) = x
-handed old (Refused x) = old
+handed old (Ok Injected) = old
+handed old (Ok Moved) = old
+handed old (Ok (Collected x)) = x
+handed old (Err x) = old
 
 -- a bit that is set or not
 abbrev pub bit : Bool → ℕ → ℕ

@@ -6,6 +6,7 @@ use crate::shapes::Stack;
 use mesh::{Refusal, Sizes, TurnOrder};
 use schemes::Scheme;
 
+// The scheme with a number: C has numbers where the library has enums.
 fn scheme_of(number: u8, order: TurnOrder) -> Result<Scheme, Refusal>
     ensures { result ≡ scheme_of number order }
 {
@@ -34,7 +35,7 @@ pub(crate) fn open(stack: Stack) -> Result<Opened, Refusal>
     Ok(Opened { sizes, scheme })
 }
 
-// The number that answers a result: 0 for none.
+// The number that answers C: 0, or that of the refusal.
 pub(crate) fn code(res: Result<(), Refusal>) -> u8
     ensures { result ≡ code res }
 {

@@ -1,4 +1,4 @@
-// Planning a stack, and listing its location bytes.
+// Planning a stack, and listing its location bytes. Schemes, tie rules and answers are numbers: C has no other enums.
 ghost use Rattle.std.specs.Prelude.{◌≡◌, MatchResult};
 ghost use Rattle.mesh.specs.Numbers.{number_of};
 ghost use Rattle.firmware.specs.Opening.{Called};
@@ -19,10 +19,7 @@ fn tie_of(number: u8, state: u16) -> Result<Tie, Refusal>
     match number {
         0 => Ok(Tie::First),
         1 => Ok(Tie::Last),
-        2 => match ShiftRegister::new(state) {
-            Ok(register) => Ok(Tie::Register(register)),
-            Err(refusal) => Err(refusal),
-        },
+        2 => Ok(Tie::Register(ShiftRegister::new(state)?)),
         _ => Err(Refusal::OutOfRange),
     }
 }
@@ -32,8 +29,7 @@ fn state_of(tie: Tie, old: u16) -> u16
     ensures { result ≡ tie_state old tie }
 {
     match tie {
-        Tie::First => old,
-        Tie::Last => old,
+        Tie::First | Tie::Last => old,
         Tie::Register(register) => register.state,
     }
 }
@@ -42,8 +38,7 @@ fn plan_by(opened: Opened, tie: u8, state: &mut u16, map: &[u8], bytes: &mut [u8
     ensures { PlannedBy opened.sizes opened.scheme tie state.old map.now bytes.old bytes.new state.new result }
 {
     match tie_of(tie, *state) {
-        Ok(rule) => {
-            let mut chooser = rule;
+        Ok(mut chooser) => {
             let result = plan(opened.sizes, map, &opened.scheme, &mut chooser, bytes);
             *state = state_of(chooser, *state);
             code(result)
@@ -52,6 +47,7 @@ fn plan_by(opened: Opened, tie: u8, state: &mut u16, map: &[u8], bytes: &mut [u8
     }
 }
 
+// Plans a stack by its scheme and a tie rule; `state` is that of a register, before and after.
 #[unsafe(no_mangle)]
 pub extern "C" fn tulgravyn_plan(
     stack: &Stack,
@@ -68,6 +64,7 @@ pub extern "C" fn tulgravyn_plan(
     }
 }
 
+// Lists the location bytes of a plan; `count` is the number of bytes written, and stays where the call is refused.
 #[unsafe(no_mangle)]
 pub extern "C" fn tulgravyn_list_plan(
     stack: &Stack,

@@ -1,31 +1,23 @@
 // Reading a description, and listing a fault.
 ghost use Rattle.std.specs.Prelude.{◌≡◌, MatchOption, ◌≢◌};
 ghost use Rattle.mesh.specs.Numbers.{number_of};
-ghost use Rattle.firmware.specs.Reading.{ListedFault, Reads, fault_of, layer_number, stack_of};
+ghost use Rattle.firmware.specs.Reading.{ListedFault, Reads, fault_of, stack_of};
 
 use crate::shapes::{Fault, Stack};
 use description::{Description, read};
-use description_laws::{ByteFault, Layer, RecordFault, StackFault};
+use description_laws::{ByteFault, RecordFault, StackFault};
 use listing::list_fault;
 use mesh::Refusal;
 
-fn layer_number(layer: Layer) -> u8
-    ensures { result ≡ layer_number layer }
-{
-    match layer {
-        Layer::Byte => 0,
-        Layer::Record => 1,
-        Layer::Stack => 2,
-    }
-}
+impl From<StackFault> for Fault {
+    ghost from_gives = { λ f r. r ≡ fault_of f };
 
-fn fault_of(fault: StackFault) -> Fault
-    ensures { result ≡ fault_of fault }
-{
-    Fault {
-        place: fault.place(),
-        number: fault.refusal().number(),
-        layer: layer_number(fault.layer()),
+    fn from(fault: StackFault) -> Fault {
+        Fault {
+            place: fault.place(),
+            number: fault.refusal().number(),
+            layer: fault.layer() as u8,
+        }
     }
 }
 
@@ -45,6 +37,7 @@ fn stack_of(description: Description, old: Stack) -> Stack
     }
 }
 
+// Reads a description into `map` and `stack`; a fault is written to `fault`, and `stack` stays.
 #[unsafe(no_mangle)]
 pub extern "C" fn tulgravyn_read(
     input: &[u8],
@@ -60,35 +53,9 @@ pub extern "C" fn tulgravyn_read(
             0
         }
         Err(found) => {
-            *fault = fault_of(found);
+            *fault = Fault::from(found);
             found.refusal().number()
         }
-    }
-}
-
-fn refusal_of(number: u8) -> Option<Refusal>
-    ensures { MatchOption result ((x : Refusal) → number_of x ≢ number) (λ x. number_of x ≡ number) }
-{
-    match number {
-        1 => Some(Refusal::InputEnds),
-        2 => Some(Refusal::UnknownLetter),
-        3 => Some(Refusal::OutOfRange),
-        4 => Some(Refusal::OutOfPlace),
-        5 => Some(Refusal::OneSet),
-        6 => Some(Refusal::LinkOutside),
-        7 => Some(Refusal::LinkTwice),
-        8 => Some(Refusal::GapUnlinked),
-        9 => Some(Refusal::ShortBuffer),
-        10 => Some(Refusal::ZeroState),
-        11 => Some(Refusal::Outside),
-        12 => Some(Refusal::Occupied),
-        13 => Some(Refusal::EmptyBuffer),
-        14 => Some(Refusal::Damaged),
-        15 => Some(Refusal::Arrived),
-        16 => Some(Refusal::NotPermitted),
-        17 => Some(Refusal::LeavesStack),
-        18 => Some(Refusal::NotArrived),
-        _ => None,
     }
 }
 
@@ -97,21 +64,16 @@ fn found_fault(fault: Fault) -> Option<StackFault>
     ensures { MatchOption result ((f : StackFault) → fault_of f ≡ fault → ⊥) (λ f. fault_of f ≡ fault) }
 {
     let place = fault.place;
-    let Some(refusal) = refusal_of(fault.number) else {
-        return None;
-    };
-    if fault.layer == 0 && fault.number == 1 {
-        return Some(StackFault::Unread(RecordFault::Ends(ByteFault { place })));
+    let refusal = Refusal::try_from(fault.number).ok()?;
+    match (fault.layer, refusal) {
+        (0, Refusal::InputEnds) => Some(StackFault::Unread(RecordFault::Ends(ByteFault { place }))),
+        (1, _) => Some(StackFault::Unread(RecordFault::Record { refusal, place })),
+        (2, _) => Some(StackFault::Stack { refusal, place }),
+        _ => None,
     }
-    if fault.layer == 1 {
-        return Some(StackFault::Unread(RecordFault::Record { refusal, place }));
-    }
-    if fault.layer == 2 {
-        return Some(StackFault::Stack { refusal, place });
-    }
-    None
 }
 
+// Lists a fault that was read; `count` is the number of bytes written, and stays where the call is refused.
 #[unsafe(no_mangle)]
 pub extern "C" fn tulgravyn_list_fault(fault: &Fault, out: &mut [u8], count: &mut usize) -> u8
     ensures { ListedFault fault.now out.old out.new count.old count.new result }

@@ -1,19 +1,15 @@
 // A crowded stack: 48 links in each gap, a packet at every router, and rounds in which every router tries each of its
 // buffers at each port.
-use channel_laws::Call;
+use channel_laws::{Buffer, Call, Port};
 use mesh::{Place, Router, Sizes};
 use std::alloc::{AllocError, Global};
 
 const ROUNDS: usize = 12;
 
-const BUFFERS: u8 = 11;
-
-const PORTS: u8 = 6;
-
 // The link map: in each row of a gap every twelfth place, a few places on from row to row and from gap to gap.
 pub(crate) fn links(heap: Global, sizes: Sizes) -> Result<Vec<u8>, AllocError> {
     let mut map = Vec::new(heap);
-    for gap in 0..usize::from(sizes.planes) - 1 {
+    for gap in 0..sizes.gaps() {
         for i in 0..sizes.area() {
             let Place { x, y } = sizes.place_at(i);
             let linked = (usize::from(x) + 5 * usize::from(y) + 3 * gap) % 12 == 0;
@@ -34,7 +30,7 @@ fn opposite(sizes: Sizes, router: Router) -> Router {
 
 // Every port of a buffer, and then to collect from it.
 fn try_buffer(calls: &mut Vec<Call>, router: Router, buffer: u8) -> Result<(), AllocError> {
-    for port in 0..PORTS {
+    for port in 0..Port::COUNT as u8 {
         calls.push(Call::Move {
             router,
             buffer,
@@ -46,7 +42,7 @@ fn try_buffer(calls: &mut Vec<Call>, router: Router, buffer: u8) -> Result<(), A
 }
 
 fn try_router(calls: &mut Vec<Call>, router: Router) -> Result<(), AllocError> {
-    for buffer in 0..BUFFERS {
+    for buffer in 0..Buffer::COUNT as u8 {
         try_buffer(calls, router, buffer)?;
     }
     Ok(())

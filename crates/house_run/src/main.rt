@@ -5,26 +5,20 @@
 mod crowd;
 mod report;
 
-use anyhow::anyhow;
-use channel_laws::Answer;
-use channels::{EMPTY, run_script};
+use channel_laws::{Done, Record};
+use channels::{run_script, table_size};
 use crowd::{crowd, links};
 use house_rules::{InnerElevators, Spread};
 use mesh::{Sizes, TurnOrder};
 use report::report;
 
-// Location bytes and records of 24 by 24 by 4 routers.
-const ROUTERS: usize = 2_304;
-
-const RECORDS: usize = 25_344;
-
 fn run(rt: &HostRuntime, sizes: Sizes, order: TurnOrder) -> anyhow::Result<()> {
     let heap = rt.alloc();
     let map = links(heap, sizes)?;
     let calls = crowd(heap, sizes)?;
-    let mut bytes = vec![in heap; 0; ROUTERS]?;
-    let mut table = vec![in heap; EMPTY; RECORDS]?;
-    let mut answers = vec![in heap; Answer::Injected; calls.len()]?;
+    let mut bytes = vec![in heap; 0; sizes.routers()]?;
+    let mut table = vec![in heap; Record::EMPTY; table_size(sizes)]?;
+    let mut answers = vec![in heap; Ok(Done::Injected); calls.len()]?;
     let mut chooser = Spread { count: 0 };
     match run_script(
         sizes,
@@ -37,17 +31,13 @@ fn run(rt: &HostRuntime, sizes: Sizes, order: TurnOrder) -> anyhow::Result<()> {
         &mut answers,
     ) {
         Ok(()) => Ok(report(rt, chooser.count, &answers, &table)?),
-        Err(refusal) => Ok(println!(rt; "refused {}", refusal.number())?),
+        Err(refusal) => Ok(println!(rt; "{refusal}")?),
     }
 }
 
 fn main(rt: HostRuntime) -> anyhow::Result<()> {
-    let Ok(sizes) = Sizes::new(24, 24, 4) else {
-        return Err(anyhow!("the sizes are refused"));
-    };
+    let sizes = Sizes::new(24, 24, 4)?;
     // West first: only West is in set 0.
-    let Ok(order) = TurnOrder::new(1, 1, 1, 0) else {
-        return Err(anyhow!("the turn order is refused"));
-    };
+    let order = TurnOrder::new(1, 1, 1, 0)?;
     run(&rt, sizes, order)
 }

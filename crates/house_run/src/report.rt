@@ -2,7 +2,7 @@
 ghost use Rattle.std.specs.Prelude.{◌≡◌, fold, count_by};
 ghost use Rattle.house_run.specs.Report.{holds, longer, moves_of};
 
-use channel_laws::{Answer, Record};
+use channel_laws::{Answer, Done, Record};
 use runs::{Kind, count};
 use std::io;
 
@@ -11,7 +11,7 @@ fn moves_of(answer: Answer) -> u16
     ensures { result ≡ moves_of answer }
 {
     match answer {
-        Answer::Collected(packet) => packet.moves,
+        Ok(Done::Collected(packet)) => packet.moves,
         _ => 0,
     }
 }
@@ -20,28 +20,14 @@ fn moves_of(answer: Answer) -> u16
 fn longest_way(answers: &[Answer]) -> u16
     ensures { result ≡ fold longer 0 answers.now }
 {
-    let mut most = 0u16;
-    for answer in answers {
-        most = most.max(moves_of(*answer));
-    }
-    most
-}
-
-fn is_held(record: Record) -> bool
-    ensures { result ≡ holds «record» }
-{
-    record.mark != 0
+    answers.iter().fold(0, |most, answer| most.max(moves_of(*answer)))
 }
 
 // How many packets the table holds.
 fn held(table: &[Record]) -> usize
     ensures { result ≡ count_by holds table.now }
 {
-    let mut number = 0;
-    for record in table {
-        number += usize::from(is_held(*record));
-    }
-    number
+    table.iter().filter(|record| !record.is_empty()).count()
 }
 
 pub(crate) fn report(

@@ -1,35 +1,41 @@
 // The line of a fault.
-ghost use Rattle.std.specs.Prelude.{◌≡◌, ◌≤◌};
+ghost use Rattle.std.specs.Prelude.{◌≡◌};
 ghost use Rattle.listing.specs.Listed.{Listed};
-ghost use Rattle.listing.specs.Made.{said};
 ghost use Rattle.listing.specs.Text.{fault_text, word};
 
-use crate::builder::Line;
+use arrayvec::ArrayString;
 use description_laws::{Layer, StackFault};
+use itoa::Buffer;
 use mesh::Refusal;
 
-fn word(layer: Layer) -> &'static [u8]
+// The longest line that a fault has: a word of six letters, a number of three digits, a place of twenty,
+// two spaces and the newline.
+const ROOM: usize = 32;
+
+// A function and no `Display`: the text goes into lent bytes, by equality with its definition.
+fn word(layer: Layer) -> &'static str
     ensures { result.now ≡ word layer }
 {
     match layer {
-        Layer::Byte => b"byte",
-        Layer::Record => b"record",
-        Layer::Stack => b"stack",
+        Layer::Byte => "byte",
+        Layer::Record => "record",
+        Layer::Stack => "stack",
     }
 }
 
-// The line, made before it is known whether it fits the caller's buffer.
-fn fault_line(fault: StackFault) -> Line
-    ensures text { said result ≡ fault_text fault }
-    ensures size { result.len ≤ 32 }
+// The line, made before it is known whether it fits the caller's buffer. Not by `write!`, whose contract leaves open
+// that it fails.
+fn fault_line(fault: StackFault) -> ArrayString<ROOM>
+    ensures { result.bytes ≡ fault_text fault }
 {
-    let mut line = Line::new();
-    line.push_all(word(fault.layer()));
-    line.push(b' ');
-    line.push_decimal(usize::from(fault.refusal().number()));
-    line.push(b' ');
-    line.push_decimal(fault.place());
-    line.push(b'\n');
+    let mut digits = Buffer::new();
+    let mut line = ArrayString::new();
+    line.push_str(word(fault.layer()));
+    line.push_str(" ");
+    line.push_str(digits.format(fault.refusal().number()));
+    line.push_str(" ");
+    line.push_str(digits.format(fault.place()));
+    line.push_str("\n");
     line
 }
 
@@ -40,10 +46,10 @@ pub fn list_fault(fault: StackFault, out: &mut [u8]) -> Result<usize, Refusal>
     ensures listed { Listed (fault_text fault) out.old out.new result }
 {
     let line = fault_line(fault);
-    let text = line.text();
+    let text = line.as_str().as_bytes();
     if out.len() < text.len() {
         return Err(Refusal::ShortBuffer);
     }
-    out[0..text.len()].copy_from_slice(text);
+    out[..text.len()].copy_from_slice(text);
     Ok(text.len())
 }

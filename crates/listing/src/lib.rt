@@ -2,7 +2,6 @@
 
 #![tactic(auto)]
 
-mod builder;
 mod fault;
 mod plan;
 

@@ -29,7 +29,8 @@ fn number(byte: u8) -> [u8; EACH]
     [hex_digit(byte / 16), hex_digit(byte % 16), b' ']
 }
 
-// Fills `out` with the numbers of a row, a space after each. A newline for the last space makes it a line.
+// Fills `out` with the numbers of a row, a space after each. A newline for the last space makes it a line. By index:
+// a proof learns nothing of the bytes that are written through `chunks_exact_mut`.
 fn write_numbers(row: &[u8], out: &mut [u8])
     requires some { 0 < length row.now }
     requires room { length row.now * 3 ≡ length out.old }
@@ -52,7 +53,8 @@ fn write_row(row: &[u8], out: &mut [u8])
     out[row.len() * EACH - 1] = b'\n';
 }
 
-// Writes `rows` rows of `width` bytes as lines over the front of `out`.
+// Writes `rows` rows of `width` bytes as lines over the front of `out`, by index too.
+#[tactic(auto, using(crate::proofs::Rows::row_within))]
 fn write_rows(width: usize, rows: usize, bytes: &[u8], out: &mut [u8])
     requires some { 0 < width }
     requires whole { rows * width ≤ length bytes.now }
@@ -83,6 +85,7 @@ fn write_plan(sizes: Sizes, bytes: &[u8], out: &mut [u8])
 }
 
 // The length of the text of any plan of these sizes.
+#[tactic(auto, using(crate::proofs::Rows::length_plan))]
 fn plan_size(sizes: Sizes) -> usize
     ensures { (bytes : List ℕ) → sizes.planes * (sizes.width * sizes.height) ≤ length bytes → length (plan_text sizes bytes) ≡ result }
 {

@@ -1,6 +1,6 @@
 -- Masks and shifts against quotients and remainders.
 use Rattle.std.proofs.Common.{◌≡◌, ℕ, ◌+◌, ◌-◌, ◌*◌, ◌/◌, ◌%◌, ◌^◌, ◌<◌, ◌≤◌, Bool, true, false, not, eqb, refl, ap, ⊎_elim, one-mul, zero-mul, arith}
-use lib.Bits.{bit_and, bit_or, and_high, or_shifted}
+use lib.Bits.{bit_and, and_high}
 use Rattle.std.proofs.lemmas.Nat.{pow_pos}
 use Rattle.std.proofs.lemmas.Bool.{cases_eq, cond_both, ne_eqb}
 use Rattle.std.proofs.lemmas.Bool.Decides.{nat_tests}
@@ -50,11 +50,6 @@ four_bits false false true true = refl
 four_bits false false true false = refl
 four_bits false false false true = refl
 four_bits false false false false = refl
-
-pub joined_halves : (high low : ℕ) → high < 16 → low < 16 → bit_or (high * 16 % 256) low ≡ high * 16 + low
-joined_halves high low h l =
-    let whole : high * 16 % 256 ≡ high * 16 = omega arith in
-    rw whole (or_shifted high 4 low l)
 
 pub half_written : (w : Way) (b v : ℕ) → half w (with_half w b v) ≡ v % 16
 half_written Up b v = omega arith

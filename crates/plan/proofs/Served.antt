@@ -34,21 +34,21 @@ all_joined {links = links} {d} h g l =
     record { at = record { x = link.x; y = link.y }; inside = record { column = inside.column; row = inside.row }; link = subst (λ z. get_or links (cell d.sizes.width d.sizes.height z record { x = link.x; y = link.y }) 0 ≡ 1) named.2 (h.marked.linked link named.1) }
 
 -- the bytes of the plan, without what lies beyond
-pub plan_front : (s : Sizes) (links bytes beyond : List ℕ) (n : ℕ) → bytes ≡ safe_plan s links ++ beyond → n ≡ s.planes * (s.width * s.height) → (take (n - 0) bytes ≡ safe_plan s links) × (s.planes * (s.width * s.height) ≤ length (take (n - 0) bytes))
+pub plan_front : (s : Sizes) (links bytes beyond : List ℕ) (n : ℕ) → bytes ≡ safe_plan s links ++ beyond → n ≡ s.planes * (s.width * s.height) → (take n bytes ≡ safe_plan s links) × (s.planes * (s.width * s.height) ≤ length (take n bytes))
 plan_front s links bytes beyond n e size =
     let long : length (safe_plan s links) ≡ s.planes * (s.width * s.height) = length-map-range_with_len _ 0 _ in
-    let front : take (n - 0) bytes ≡ safe_plan s links = ap (take (n - 0)) e ∙ take_at (safe_plan s links) beyond (n - 0) (omega arith) in
+    let front : take n bytes ≡ safe_plan s links = ap (take n) e ∙ take_at (safe_plan s links) beyond n (omega arith) in
     (front, omega (arith, ap length front))
 
 -- no more than so many of a list
-take_most : (xs : List ℕ) (m k : ℕ) → k ≡ min (length xs) m → take (k - 0) xs ≡ take m xs
+take_most : (xs : List ℕ) (m k : ℕ) → k ≡ min (length xs) m → take k xs ≡ take m xs
 take_most xs m k e =
     ⊎_elim
-    (λ (l : length xs < m). take_all (k - 0) xs (omega arith) ∙ sym (take_all m xs (omega arith)))
-    (λ (l : m ≤ length xs). let same : k - 0 ≡ m = omega arith in ap (λ j. take j xs) same)
+    (λ (l : length xs < m). take_all k xs (omega arith) ∙ sym (take_all m xs (omega arith)))
+    (λ (l : m ≤ length xs). let same : k ≡ m = omega arith in ap (λ j. take j xs) same)
     (cases_lt (length xs) m)
 
 -- the text that stands in front of a buffer, for the bytes of an input that count
-pub front_says : (input text beyond out : List ℕ) (k count : ℕ) → k ≡ min (length input) 16142 → count ≡ length text → out ≡ text ++ beyond → Says (take (k - 0) input) text → Says (take 16142 input) (take (count - 0) out)
+pub front_says : (input text beyond out : List ℕ) (k count : ℕ) → k ≡ min (length input) 16142 → count ≡ length text → out ≡ text ++ beyond → Says (take k input) text → Says (take 16142 input) (take count out)
 front_says input text beyond out k count most size over says =
-    subst₂ Says (take_most input 16142 k most) (sym (ap (take (count - 0)) over ∙ take_at text beyond (count - 0) (omega arith))) says
+    subst₂ Says (take_most input 16142 k most) (sym (ap (take count) over ∙ take_at text beyond count (omega arith))) says

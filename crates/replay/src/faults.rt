@@ -1,38 +1,41 @@
 // What is wrong with a script: a line, and why it is not understood.
 use std::alloc::{AllocError, AllocFailed};
-use std::error::Error;
-use std::fmt;
+use std::num::{IntErrorKind, ParseIntError, TryFromIntError};
+use thiserror::Error;
 
 // Why a line is not understood.
-#[derive(Clone, Copy, Debug)]
+#[derive(Clone, Copy, Debug, Error)]
 pub(crate) enum Reason {
+    #[error("not text")]
     NotText,
+    #[error("unknown word")]
     UnknownWord,
+    #[error("wrong count of words")]
     WordCount,
+    #[error("not a number")]
     NotNumber,
+    #[error("number too large")]
     TooLarge,
+    #[error("not one to four hexadecimal digits")]
     NotRegister,
+    #[error("out of order")]
     OutOfOrder,
+    #[error("no stack line")]
     NoStack,
+    #[error("no order line")]
     NoOrder,
+    #[error("no plan line")]
     NoPlan,
+    #[error("out of memory")]
     Memory,
 }
 
 impl Reason {
-    fn text(self) -> &'static str {
-        match self {
-            Reason::NotText => "not text",
-            Reason::UnknownWord => "unknown word",
-            Reason::WordCount => "wrong count of words",
-            Reason::NotNumber => "not a number",
-            Reason::TooLarge => "number too large",
-            Reason::NotRegister => "not one to four hexadecimal digits",
-            Reason::OutOfOrder => "out of order",
-            Reason::NoStack => "no stack line",
-            Reason::NoOrder => "no order line",
-            Reason::NoPlan => "no plan line",
-            Reason::Memory => "out of memory",
+    // The fault of the line that comes after so many.
+    pub(crate) fn after(self, lines: usize) -> Fault {
+        Fault {
+            line: lines.saturating_add(1),
+            reason: self,
         }
     }
 }
@@ -49,19 +52,25 @@ impl<T: Drop> From<AllocFailed<T>> for Reason {
     }
 }
 
-// The first line that is not understood. Lines are counted from 1.
-#[derive(Clone, Copy, Debug)]
-pub(crate) struct Fault {
-    pub(crate) line: usize,
-    pub(crate) reason: Reason,
-}
-
-impl fmt::Display for Fault {
-    fn fmt<W: fmt::Write>(&self, f: &mut fmt::Formatter<W>) -> fmt::Result {
-        let line = self.line;
-        let reason = self.reason.text();
-        write!(f, "line {line}: {reason}")
+impl From<ParseIntError> for Reason {
+    fn from(error: ParseIntError) -> Reason {
+        match error.kind() {
+            IntErrorKind::PosOverflow => Reason::TooLarge,
+            _ => Reason::NotNumber,
+        }
     }
 }
 
-impl Error for Fault {}
+impl From<TryFromIntError> for Reason {
+    fn from(_error: TryFromIntError) -> Reason {
+        Reason::TooLarge
+    }
+}
+
+// The first line that is not understood. Lines are counted from 1.
+#[derive(Clone, Copy, Debug, Error)]
+#[error("line {line}: {reason}")]
+pub(crate) struct Fault {
+    line: usize,
+    reason: Reason,
+}

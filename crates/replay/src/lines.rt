@@ -11,7 +11,7 @@ use crate::faults::Reason;
 use channel_laws::Call;
 use description_laws::{Extent, SetNumbers};
 use mesh::{Link, Router};
-use std::num::IntErrorKind;
+use std::str::FromStr;
 
 // How location bytes are filled.
 #[derive(Clone, Copy)]
@@ -50,23 +50,14 @@ fn parse_number(word: &str) -> Result<u32, Reason> {
     if word.starts_with('+') {
         return Err(Reason::NotNumber);
     }
-    match word.parse::<u32>() {
-        Ok(value) => Ok(value),
-        Err(error) => match error.kind() {
-            IntErrorKind::PosOverflow => Err(Reason::TooLarge),
-            _ => Err(Reason::NotNumber),
-        },
-    }
+    Ok(word.parse::<u32>()?)
 }
 
 fn parse_byte(word: &str) -> Result<u8, Reason> {
-    match u8::try_from(parse_number(word)?) {
-        Ok(value) => Ok(value),
-        Err(_) => Err(Reason::TooLarge),
-    }
+    Ok(u8::try_from(parse_number(word)?)?)
 }
 
-// As many bytes as are asked for, a word to each.
+// As many bytes as are asked for, a word to each. A loop: an array's `try_map` over words has no generated proof.
 fn parse_bytes<const N: usize>(words: &[&str]) -> Result<[u8; N], Reason> {
     if words.len() != N {
         return Err(Reason::WordCount);
@@ -83,13 +74,11 @@ fn parse_state(word: &str) -> Result<u16, Reason> {
     if word.len() > 4 || word.starts_with('+') {
         return Err(Reason::NotRegister);
     }
-    match u16::from_str_radix(word, 16) {
-        Ok(value) => Ok(value),
-        Err(_) => Err(Reason::NotRegister),
-    }
+    u16::from_str_radix(word, 16).map_err(|_| Reason::NotRegister)
 }
 
-// The fields of each line from its numbers, in the order in which they are written.
+// The fields of each line from its numbers, in the order in which they are written: it is the script's order, so no
+// `From` of the types says it.
 fn stack_from(numbers: [u8; 3]) -> Extent
     ensures { result ≡ stack_from numbers }
 {
@@ -155,12 +144,16 @@ fn collect_from(numbers: [u8; 4]) -> Call
     Call::Collect { router, buffer }
 }
 
-fn parse_scheme(word: &str) -> Result<Scheme, Reason> {
-    match word {
-        "md-safe" => Ok(Scheme::MdSafe),
-        "random-offline" => Ok(Scheme::RandomOffline),
-        "optimistic" => Ok(Scheme::Optimistic),
-        _ => Err(Reason::UnknownWord),
+impl FromStr for Scheme {
+    type Err = Reason;
+
+    fn from_str(word: &str) -> Result<Scheme, Reason> {
+        match word {
+            "md-safe" => Ok(Scheme::MdSafe),
+            "random-offline" => Ok(Scheme::RandomOffline),
+            "optimistic" => Ok(Scheme::Optimistic),
+            _ => Err(Reason::UnknownWord),
+        }
     }
 }
 
@@ -179,7 +172,7 @@ fn parse_planning(words: &[&str]) -> Result<Planning, Reason> {
         return Err(Reason::WordCount);
     };
     Ok(Planning {
-        scheme: parse_scheme(*filler)?,
+        scheme: filler.parse::<Scheme>()?,
         tie: parse_tie(chooser)?,
     })
 }

@@ -1,6 +1,5 @@
 // What a replay prints.
-use anyhow::anyhow;
-use channel_laws::{Answer, Call, Ports, Record};
+use channel_laws::{Answer, Call, Done, Ports, Record};
 use description_laws::StackFault;
 use listing::{list_fault, list_plan};
 use mesh::{Refusal, Router, Sizes};
@@ -60,29 +59,25 @@ impl fmt::Display for Numbers {
 
 pub(crate) fn write_fault<W: Write>(out: &mut W, fault: StackFault) -> anyhow::Result<()> {
     let mut text = [0; TEXT];
-    let Ok(count) = list_fault(fault, &mut text) else {
-        return Err(anyhow!("the listing does not fit"));
-    };
-    out.write_all(text.get(0..count).unwrap_or(&[]))?;
+    let count = list_fault(fault, &mut text)?;
+    out.write_all(&text[..count])?;
     Ok(())
 }
 
 pub(crate) fn write_plan<W: Write>(out: &mut W, sizes: Sizes, bytes: &[u8]) -> anyhow::Result<()> {
     let mut text = [0; TEXT];
-    let Ok(count) = list_plan(sizes, bytes, &mut text) else {
-        return Err(anyhow!("the listing does not fit"));
-    };
+    let count = list_plan(sizes, bytes, &mut text)?;
     writeln!(out, "plan ok")?;
-    out.write_all(text.get(0..count).unwrap_or(&[]))?;
+    out.write_all(&text[..count])?;
     Ok(())
 }
 
 pub(crate) fn write_refusal<W: Write>(out: &mut W, refusal: Refusal) -> anyhow::Result<()> {
-    let number = refusal.number();
-    writeln!(out, "plan refused {number}")?;
+    writeln!(out, "plan {refusal}")?;
     Ok(())
 }
 
+// Not a `Display`: that would be one more wrapper around the same `match`.
 fn word(call: Call) -> &'static str {
     match call {
         Call::Inject { .. } => "inject",
@@ -94,15 +89,9 @@ fn word(call: Call) -> &'static str {
 fn write_answer<W: Write>(out: &mut W, call: Call, answer: Answer) -> io::Result<()> {
     let word = word(call);
     match answer {
-        Answer::Injected | Answer::Moved => writeln!(out, "{word} ok"),
-        Answer::Collected(record) => {
-            let packet = Packet(record);
-            writeln!(out, "{word} ok {packet}")
-        }
-        Answer::Refused(refusal) => {
-            let number = refusal.number();
-            writeln!(out, "{word} refused {number}")
-        }
+        Ok(Done::Injected | Done::Moved) => writeln!(out, "{word} ok"),
+        Ok(Done::Collected(record)) => writeln!(out, "{word} ok {}", Packet(record)),
+        Err(refusal) => writeln!(out, "{word} {refusal}"),
     }
 }
 

@@ -1,29 +1,57 @@
 // Works a script: reads its description, runs its calls over the plan, and reports.
-ghost use Rattle.std.specs.Prelude.{◌≡◌, true};
-ghost use Rattle.channel_laws.specs.Table.{in_stack};
-
-use crate::lines::{Scheme, Tie};
+use crate::lines;
 use crate::report::{
     write_answers, write_fault, write_held, write_plan, write_refusal, write_totals,
 };
 use crate::script::Script;
-use channel_laws::{Answer, Call, Record};
-use channels::{EMPTY, ports, run_script};
+use channel_laws::{Answer, Buffer, Call, Done, Record};
+use channels::{PlannedStack, run_script, table_size};
 use description::{Description, read};
-use mesh::{Router, Sizes};
-use routing::{
-    Chooser, Filler, First, Guide, Last, MdSafe, Optimistic, RandomOffline, ShiftRegister,
-};
+use mesh::{MAP_BYTES, Refusal, TurnOrder};
+use routing::ShiftRegister;
+use schemes::{Scheme, Tie};
 use std::alloc::Global;
 use std::io::Write;
 
-// The bytes of a link map.
-const MAP: usize = 4_032;
+// The scheme that a script names, with the turn order of its stack.
+fn scheme_of(named: lines::Scheme, order: TurnOrder) -> Scheme {
+    match named {
+        lines::Scheme::MdSafe => Scheme::MdSafe(order),
+        lines::Scheme::RandomOffline => Scheme::RandomOffline(order),
+        lines::Scheme::Optimistic => Scheme::Optimistic,
+    }
+}
 
-// The buffers of a router.
-const BUFFERS: usize = 11;
+// The tie rule that a script names: a register of zero is refused.
+fn tie_of(named: lines::Tie) -> Result<Tie, Refusal> {
+    match named {
+        lines::Tie::First => Ok(Tie::First),
+        lines::Tie::Last => Ok(Tie::Last),
+        lines::Tie::Register(state) => Ok(Tie::Register(ShiftRegister::new(state)?)),
+    }
+}
 
-// A stack as it is described, and the calls to work on it.
+// A line for each packet that the table holds, in the order of its records: an empty buffer has no ports to tell. The
+// reply is how many there are.
+fn report_held<W: Write>(
+    stack: &PlannedStack<'_>,
+    scheme: Scheme,
+    table: &[Record],
+    out: &mut W,
+) -> anyhow::Result<usize> {
+    let mut held = 0usize;
+    for (i, record) in table.iter().enumerate() {
+        let router = stack.sizes.router_at(i / Buffer::COUNT);
+        let buffer = (i % Buffer::COUNT) as u8;
+        if let Ok(permitted) = stack.ports(&scheme, table, router, buffer) {
+            write_held(out, router, buffer, *record, permitted)?;
+            held = held.saturating_add(1);
+        }
+    }
+    Ok(held)
+}
+
+// A stack that is planned, and the calls that are worked on it.
 #[derive(Clone, Copy)]
 struct Job<'a> {
     heap: Global,
@@ -33,116 +61,61 @@ struct Job<'a> {
     calls: &'a [Call],
 }
 
-// The i-th router of a stack.
-fn router_at(sizes: Sizes, i: usize) -> Router
-    ensures { in_stack sizes result ≡ true }
-{
-    sizes.router_at(i)
-}
-
-// A line for each packet that the table holds, in the order of its records: an empty buffer has no ports to tell. The
-// reply is how many there are.
-fn report_held<G: Guide, W: Write>(
-    job: Job<'_>,
-    guide: &G,
-    bytes: &[u8],
-    table: &[Record],
-    out: &mut W,
-) -> anyhow::Result<usize> {
-    let sizes = job.description.sizes;
-    let mut held = 0usize;
-    for (i, record) in table.iter().enumerate() {
-        let router = router_at(sizes, i / BUFFERS);
-        let buffer = (i % BUFFERS) as u8;
-        if let Ok(permitted) = ports(guide, sizes, job.map, bytes, table, router, buffer) {
-            write_held(out, router, buffer, *record, permitted)?;
-            held = held.saturating_add(1);
-        }
-    }
-    Ok(held)
-}
-
-// Reports the plan, what each call did, and what the table holds in the end.
-fn report_run<G: Guide, W: Write>(
-    job: Job<'_>,
-    guide: &G,
-    bytes: &[u8],
-    table: &[Record],
-    answers: &[Answer],
-    out: &mut W,
-) -> anyhow::Result<()> {
-    write_plan(out, job.description.sizes, bytes)?;
-    write_answers(out, job.calls, answers)?;
-    let held = report_held(job, guide, bytes, table, out)?;
-    write_totals(out, answers, held)?;
-    Ok(())
-}
-
-// Plans the stack, works the calls, and reports what came of them.
-fn run<C: Chooser, F: Filler<C>, W: Write>(
-    job: Job<'_>,
-    filler: &F,
-    chooser: &mut C,
-    out: &mut W,
-) -> anyhow::Result<()> {
-    let sizes = job.description.sizes;
-    let mut bytes = vec![in job.heap; 0; sizes.routers()]?;
-    let mut table = vec![in job.heap; EMPTY; BUFFERS * sizes.routers()]?;
-    let mut answers = vec![in job.heap; Answer::Injected; job.calls.len()]?;
-    match run_script(
+// Plans the stack, works the calls, and reports the plan, what each call did, and what the table holds in the end.
+fn run<W: Write>(job: Job<'_>, chooser: &mut Tie, out: &mut W) -> anyhow::Result<()> {
+    let Job {
+        heap,
+        description: Description { sizes, .. },
+        map,
+        scheme,
+        calls,
+    } = job;
+    let mut bytes = vec![in heap; 0; sizes.routers()]?;
+    let mut table = vec![in heap; Record::EMPTY; table_size(sizes)]?;
+    let mut answers: Vec<Answer> = vec![in heap; Ok(Done::Injected); calls.len()]?;
+    if let Err(refusal) = run_script(
         sizes,
-        job.map,
-        filler,
+        map,
+        &scheme,
         chooser,
         &mut bytes,
         &mut table,
-        job.calls,
+        calls,
         &mut answers,
     ) {
-        Ok(()) => report_run(job, &filler.guide(), &bytes, &table, &answers, out),
-        Err(refusal) => write_refusal(out, refusal),
+        return write_refusal(out, refusal);
     }
-}
-
-fn run_with<C: Chooser, W: Write>(
-    job: Job<'_>,
-    chooser: &mut C,
-    out: &mut W,
-) -> anyhow::Result<()> {
-    let order = job.description.order;
-    match job.scheme {
-        Scheme::MdSafe => run(job, &MdSafe { order }, chooser, out),
-        Scheme::RandomOffline => run(job, &RandomOffline { order }, chooser, out),
-        Scheme::Optimistic => run(job, &Optimistic, chooser, out),
-    }
-}
-
-fn run_settled<W: Write>(job: Job<'_>, tie: Tie, out: &mut W) -> anyhow::Result<()> {
-    match tie {
-        Tie::First => run_with(job, &mut First, out),
-        Tie::Last => run_with(job, &mut Last, out),
-        Tie::Register(state) => match ShiftRegister::new(state) {
-            Ok(mut register) => run_with(job, &mut register, out),
-            Err(refusal) => write_refusal(out, refusal),
-        },
-    }
+    write_plan(out, sizes, &bytes)?;
+    write_answers(out, calls, &answers)?;
+    let stack = PlannedStack {
+        sizes,
+        map,
+        bytes: &bytes,
+    };
+    let held = report_held(&stack, scheme, &table, out)?;
+    write_totals(out, &answers, held)?;
+    Ok(())
 }
 
 // Works a script, and writes the report.
 pub(crate) fn work<W: Write>(heap: Global, script: &Script, out: &mut W) -> anyhow::Result<()> {
-    let mut map = [0; MAP];
-    match read(&script.description, &mut map) {
-        Ok(description) => run_settled(
+    let mut map = [0; MAP_BYTES];
+    let description = match read(&script.description, &mut map) {
+        Ok(description) => description,
+        Err(fault) => return write_fault(out, fault),
+    };
+    match tie_of(script.planning.tie) {
+        Ok(mut chooser) => run(
             Job {
                 heap,
                 description,
                 map: &map,
-                scheme: script.planning.scheme,
+                scheme: scheme_of(script.planning.scheme, description.order),
                 calls: &script.calls,
             },
-            script.planning.tie,
+            &mut chooser,
             out,
         ),
-        Err(fault) => write_fault(out, fault),
+        Err(refusal) => write_refusal(out, refusal),
     }
 }

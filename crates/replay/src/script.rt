@@ -1,14 +1,12 @@
 // The script: lines of words, put together into a description of the stack, the way it is planned, and the calls.
 ghost use Rattle.std.specs.Prelude.{◌≡◌, [], ◌∷◌, OnOk};
-ghost use Rattle.description_laws.specs.declared.records.Record.TheVariants as records;
 ghost use Rattle.description_laws.specs.Description.{spelled};
 ghost use Rattle.replay.specs.Scripts.{Added, Grown};
 
 use crate::faults::{Fault, Reason};
 use crate::lines::{Line, Planning, parse_line};
 use channel_laws::Call;
-use description_laws::{Extent, SetNumbers};
-use mesh::Link;
+use description_laws::Record;
 use std::alloc::Global;
 use std::str::from_utf8;
 
@@ -29,25 +27,6 @@ enum Stage {
     Calls(Planning),
 }
 
-// The records of a description, as its reader takes them.
-fn stack_record(extent: Extent) -> [u8; 4]
-    ensures { result ≡ spelled (records.Stack extent) }
-{
-    [b'S', extent.width, extent.height, extent.planes]
-}
-
-fn order_record(sets: SetNumbers) -> [u8; 5]
-    ensures { result ≡ spelled (records.Order sets) }
-{
-    [b'O', sets.north, sets.east, sets.south, sets.west]
-}
-
-fn link_record(link: Link) -> [u8; 4]
-    ensures { result ≡ spelled (records.Pillar link) }
-{
-    [b'L', link.x, link.y, link.gap]
-}
-
 // A script under way.
 #[derive(Drop)]
 struct Draft {
@@ -65,11 +44,18 @@ impl Draft {
         }
     }
 
-    // Spells a record of the description.
-    fn spell(&mut self, spelling: &[u8]) -> Result<(), Reason>
-        ensures { OnOk result (Grown self.old self.new self.old.stage spelling.now []) }
+    // Spells a record of the description, as the reader takes it. `next` is what may come after it.
+    fn spell(&mut self, record: Record, next: Stage) -> Result<(), Reason>
+        ensures { OnOk result (Grown self.old self.new «next» (spelled «record») []) }
     {
-        self.description.extend_from_slice(spelling)?;
+        let text = &mut self.description;
+        match record {
+            Record::Stack(e) => text.extend_from_slice(&[b'S', e.width, e.height, e.planes])?,
+            Record::Order(s) => text.extend_from_slice(&[b'O', s.north, s.east, s.south, s.west])?,
+            Record::Pillar(l) => text.extend_from_slice(&[b'L', l.x, l.y, l.gap])?,
+            Record::End => text.extend_from_slice(b"Z")?,
+        }
+        self.stage = next;
         Ok(())
     }
 
@@ -85,19 +71,10 @@ impl Draft {
         ensures { OnOk result (Added self.old line self.new) }
     {
         match (self.stage, line) {
-            (Stage::Stack, Line::Stack(extent)) => {
-                self.stage = Stage::Order;
-                self.spell(&stack_record(extent))
-            }
-            (Stage::Order, Line::Order(sets)) => {
-                self.stage = Stage::Links;
-                self.spell(&order_record(sets))
-            }
-            (Stage::Links, Line::Link(link)) => self.spell(&link_record(link)),
-            (Stage::Links, Line::Plan(planning)) => {
-                self.stage = Stage::Calls(planning);
-                self.spell(b"Z")
-            }
+            (Stage::Stack, Line::Stack(extent)) => self.spell(Record::Stack(extent), Stage::Order),
+            (Stage::Order, Line::Order(sets)) => self.spell(Record::Order(sets), Stage::Links),
+            (Stage::Links, Line::Link(link)) => self.spell(Record::Pillar(link), Stage::Links),
+            (Stage::Links, Line::Plan(planning)) => self.spell(Record::End, Stage::Calls(planning)),
             (Stage::Calls(_), Line::Call(call)) => self.call(call),
             _ => Err(Reason::OutOfOrder),
         }
@@ -105,10 +82,7 @@ impl Draft {
 
     // Takes a line of text. What follows a '#' is a comment, and a line without words passes.
     fn take_line(&mut self, heap: Global, text: &str) -> Result<(), Reason> {
-        let said = match text.split_once('#') {
-            Some((said, _)) => said,
-            None => text,
-        };
+        let said = text.split_once('#').map_or(text, |(said, _)| said);
         let words = said.split_ascii_whitespace().collect::<Vec<&str>>(heap)?;
         match words.as_slice() {
             [first, others @ ..] => self.add(parse_line(*first, others)?),
@@ -130,40 +104,28 @@ impl Draft {
     }
 }
 
-// The number of the line after these bytes.
-fn line_after(bytes: &[u8]) -> usize {
-    let mut line = 1usize;
-    for byte in bytes {
-        if *byte == b'\n' {
-            line = line.saturating_add(1);
-        }
-    }
-    line
-}
-
 // Reads lines of text. A line that is missing at the end is asked for after the last one.
 fn parse_text(heap: Global, text: &str) -> Result<Script, Fault> {
     let mut draft = Draft::new(heap);
-    let mut line = 1usize;
-    for said in text.lines() {
-        if let Err(reason) = draft.take_line(heap, said) {
-            return Err(Fault { line, reason });
-        }
-        line = line.saturating_add(1);
+    for (i, line) in text.lines().enumerate() {
+        draft
+            .take_line(heap, line)
+            .map_err(|reason| reason.after(i))?;
     }
-    match draft.finish() {
-        Ok(script) => Ok(script),
-        Err(reason) => Err(Fault { line, reason }),
-    }
+    draft
+        .finish()
+        .map_err(|reason| reason.after(text.lines().count()))
+}
+
+fn count_newlines(bytes: &[u8]) -> usize {
+    bytes.iter().filter(|byte| **byte == b'\n').count()
 }
 
 // Reads a script, up to the first line that is not understood. Input that is not text is refused before any line is read.
 pub(crate) fn parse(heap: Global, input: &[u8]) -> Result<Script, Fault> {
-    match from_utf8(input) {
-        Ok(text) => parse_text(heap, text),
-        Err(error) => Err(Fault {
-            line: line_after(input.get(0..error.valid_up_to()).unwrap_or(input)),
-            reason: Reason::NotText,
-        }),
-    }
+    let text = from_utf8(input).map_err(|error| {
+        let before = input.get(0..error.valid_up_to()).unwrap_or(input);
+        Reason::NotText.after(count_newlines(before))
+    })?;
+    parse_text(heap, text)
 }

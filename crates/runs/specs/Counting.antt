@@ -1,25 +1,25 @@
 -- The kinds of answers.
-use Rattle.std.specs.Prelude.{Bool, true, false}
-use Rattle.channel_laws.specs.declared.calls.Answer.{Answer}
-use Rattle.channel_laws.specs.declared.calls.Answer.TheVariants as answers
+use Rattle.std.specs.Prelude.{Bool, true, false, Ok, Err}
+use Rattle.channel_laws.specs.declared.calls.Done.TheVariants as done
+use Rattle.channel_laws.specs.Calls.{Answer}
 use Rattle.runs.specs.declared.counting.Kind.{Kind}
 use Rattle.runs.specs.declared.counting.Kind.TheVariants as kinds
 
 -- whether an answer is of a kind
 abbrev pub of_kind : Kind → Answer → Bool
-of_kind kinds.Injected answers.Injected = true
-of_kind kinds.Injected answers.Moved = false
-of_kind kinds.Injected (answers.Collected x) = false
-of_kind kinds.Injected (answers.Refused x) = false
-of_kind kinds.Moved answers.Injected = false
-of_kind kinds.Moved answers.Moved = true
-of_kind kinds.Moved (answers.Collected x) = false
-of_kind kinds.Moved (answers.Refused x) = false
-of_kind kinds.Collected answers.Injected = false
-of_kind kinds.Collected answers.Moved = false
-of_kind kinds.Collected (answers.Collected x) = true
-of_kind kinds.Collected (answers.Refused x) = false
-of_kind kinds.Refused answers.Injected = false
-of_kind kinds.Refused answers.Moved = false
-of_kind kinds.Refused (answers.Collected x) = false
-of_kind kinds.Refused (answers.Refused x) = true
+of_kind kinds.Injected (Ok done.Injected) = true
+of_kind kinds.Injected (Ok done.Moved) = false
+of_kind kinds.Injected (Ok (done.Collected x)) = false
+of_kind kinds.Injected (Err x) = false
+of_kind kinds.Moved (Ok done.Injected) = false
+of_kind kinds.Moved (Ok done.Moved) = true
+of_kind kinds.Moved (Ok (done.Collected x)) = false
+of_kind kinds.Moved (Err x) = false
+of_kind kinds.Collected (Ok done.Injected) = false
+of_kind kinds.Collected (Ok done.Moved) = false
+of_kind kinds.Collected (Ok (done.Collected x)) = true
+of_kind kinds.Collected (Err x) = false
+of_kind kinds.Refused (Ok done.Injected) = false
+of_kind kinds.Refused (Ok done.Moved) = false
+of_kind kinds.Refused (Ok (done.Collected x)) = false
+of_kind kinds.Refused (Err x) = true

@@ -2,10 +2,10 @@
 ghost use Rattle.std.specs.Prelude.{◌≡◌, count_by};
 ghost use Rattle.runs.specs.Counting.{of_kind};
 
-use channel_laws::Answer;
+use channel_laws::{Answer, Done};
 
 // The kinds of answers.
-#[derive(Clone, Copy)]
+#[derive(Clone, Copy, PartialEq, Eq, Debug)]
 pub enum Kind {
     Injected,
     Moved,
@@ -17,10 +17,10 @@ fn is_of(kind: Kind, answer: Answer) -> bool
     ensures { result ≡ of_kind kind answer }
 {
     match (kind, answer) {
-        (Kind::Injected, Answer::Injected) => true,
-        (Kind::Moved, Answer::Moved) => true,
-        (Kind::Collected, Answer::Collected(_)) => true,
-        (Kind::Refused, Answer::Refused(_)) => true,
+        (Kind::Injected, Ok(Done::Injected)) => true,
+        (Kind::Moved, Ok(Done::Moved)) => true,
+        (Kind::Collected, Ok(Done::Collected(_))) => true,
+        (Kind::Refused, Err(_)) => true,
         _ => false,
     }
 }
@@ -29,9 +29,8 @@ fn is_of(kind: Kind, answer: Answer) -> bool
 pub fn count(kind: Kind, answers: &[Answer]) -> usize
     ensures { result ≡ count_by (of_kind kind) answers.now }
 {
-    let mut number = 0;
-    for answer in answers {
-        number += usize::from(is_of(kind, *answer));
-    }
-    number
+    answers
+        .iter()
+        .filter(|answer| is_of(kind, **answer))
+        .count()
 }

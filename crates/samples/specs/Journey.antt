@@ -1,17 +1,16 @@
 -- The journey of one packet on a stack of 3 by 3 by 2 with links at (0, 0) and (2, 2).
-use Rattle.std.specs.Prelude.{ℕ, List, [], ◌∷◌, replicate}
+use Rattle.std.specs.Prelude.{ℕ, List, [], ◌∷◌, replicate, Ok}
 use Rattle.std.proofs.Common.{lit≤}
 use Rattle.mesh.specs.declared.grid.Router.{Router}
 use Rattle.mesh.specs.declared.stack.Sizes.{Sizes}
 use Rattle.mesh.specs.Orders.{xy}
 use Rattle.routing_laws.specs.Plan.{Job, job}
 use Rattle.routing_laws.specs.Ties.{tie_half, tie_next}
-use Rattle.channel_laws.specs.declared.calls.Answer.{Answer}
-use Rattle.channel_laws.specs.declared.calls.Answer.TheVariants.{Collected, Injected, Moved}
+use Rattle.channel_laws.specs.declared.calls.Done.TheVariants.{Collected, Injected, Moved}
 use Rattle.channel_laws.specs.declared.calls.Call.{Call}
 use Rattle.channel_laws.specs.declared.calls.Call.TheVariants.{Collect, Inject, Move}
 use Rattle.channel_laws.specs.declared.records.Record.{Record}
-use Rattle.channel_laws.specs.Calls.{cleared}
+use Rattle.channel_laws.specs.Calls.{Answer, cleared}
 use Rattle.channel_laws.specs.Table.{State, empty, state}
 use Rattle.samples.specs.Choosing.{first_position, unmoved}
 
@@ -64,4 +63,4 @@ journey =
 
 -- what they answer
 abbrev pub arrivals : List Answer
-arrivals = Collected (traveller 5) ∷ Moved ∷ Moved ∷ Moved ∷ Moved ∷ Moved ∷ Injected ∷ []
+arrivals = Ok (Collected (traveller 5)) ∷ Ok Moved ∷ Ok Moved ∷ Ok Moved ∷ Ok Moved ∷ Ok Moved ∷ Ok Injected ∷ []

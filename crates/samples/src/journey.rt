@@ -1,7 +1,7 @@
 // One packet's journey: injected, moved five times, collected.
-use channel_laws::{Answer, Call};
-use channels::{EMPTY, run_script};
-use mesh::{Router, Sizes, TurnOrder};
+use channel_laws::{Answer, Call, Done, Record};
+use channels::run_script;
+use mesh::{Refusal, Router, Sizes, TurnOrder};
 use routing::{First, RandomOffline};
 use std::io;
 
@@ -49,46 +49,34 @@ const CALLS: [Call; 7] = [
 
 fn show_answer(rt: &HostRuntime, answer: Answer) -> io::Result<()> {
     match answer {
-        Answer::Injected => println!(rt; "injected"),
-        Answer::Moved => println!(rt; "moved"),
-        Answer::Collected(packet) => {
-            let tag = packet.tag;
-            let moves = packet.moves;
-            println!(rt; "collected {tag} after {moves} moves")
+        Ok(Done::Injected) => println!(rt; "injected"),
+        Ok(Done::Moved) => println!(rt; "moved"),
+        Ok(Done::Collected(packet)) => {
+            println!(rt; "collected {} after {} moves", packet.tag, packet.moves)
         }
-        Answer::Refused(refusal) => {
-            let number = refusal.number();
-            println!(rt; "refused {number}")
-        }
+        Err(refusal) => println!(rt; "{refusal}"),
     }
 }
 
-// Works the journey on the sample stack, and prints what each call answered.
-pub(crate) fn show_journey(rt: &HostRuntime, map: &[u8]) -> io::Result<()> {
+// Works the journey on the sample stack, and writes what each call answered.
+fn travel(map: &[u8], answers: &mut [Answer]) -> Result<(), Refusal> {
+    let sizes = Sizes::new(3, 3, 2)?;
+    let filler = RandomOffline {
+        order: TurnOrder::new(1, 0, 1, 0)?,
+    };
     let mut bytes = [0; 18];
-    let mut table = [EMPTY; 198];
-    let mut answers = [Answer::Injected; 7];
-    let Ok(sizes) = Sizes::new(3, 3, 2) else {
-        return Ok(());
-    };
-    let Ok(order) = TurnOrder::new(1, 0, 1, 0) else {
-        return Ok(());
-    };
-    let filler = RandomOffline { order };
-    if run_script(
-        sizes,
-        map,
-        &filler,
-        &mut First,
-        &mut bytes,
-        &mut table,
-        &CALLS,
-        &mut answers,
+    let mut table = [Record::EMPTY; 198];
+    run_script(
+        sizes, map, &filler, &mut First, &mut bytes, &mut table, &CALLS, answers,
     )
-    .is_ok()
-    {
-        for answer in answers.iter() {
-            show_answer(rt, *answer)?;
+}
+
+// Prints what each call of the journey answered.
+pub(crate) fn show_journey(rt: &HostRuntime, map: &[u8]) -> io::Result<()> {
+    let mut answers = [Ok(Done::Injected); 7];
+    if travel(map, &mut answers).is_ok() {
+        for answer in answers {
+            show_answer(rt, answer)?;
         }
     }
     Ok(())

@@ -10,7 +10,9 @@ use crate::journey::show_journey;
 use listing::list_plan;
 use mesh::{Place, Refusal, Sizes, TurnOrder, Way};
 use planner::plan;
-use routing::{Chooser, Filler, First, Last, MdSafe, Optimistic, RandomOffline, ShiftRegister};
+use routing::{
+    Chooser, Filler, First, Last, MdSafe, Optimistic, Question, RandomOffline, ShiftRegister,
+};
 use std::io;
 
 // Does nothing: its contract is the samples, gathered.
@@ -21,7 +23,20 @@ fn samples_hold()
 // The link map of a stack of 3 by 3 by 2 with links at (0, 0) and (2, 2).
 const MAP: [u8; 9] = [1, 0, 0, 0, 0, 0, 0, 0, 1];
 
-// Plans the sample stack, and prints its listing.
+// Plans the sample stack, and writes its listing into the room lent.
+fn listing<'a, C: Chooser, F: Filler<C>>(
+    filler: &F,
+    chooser: &mut C,
+    room: &'a mut [u8],
+) -> Result<&'a [u8], Refusal> {
+    let sizes = Sizes::new(3, 3, 2)?;
+    let mut bytes = [0; 18];
+    plan(sizes, &MAP, filler, chooser, &mut bytes)?;
+    let count = list_plan(sizes, &bytes, room)?;
+    Ok(&room[..count])
+}
+
+// Prints the listing of the sample stack's plan.
 fn show<C: Chooser, F: Filler<C>>(
     rt: &HostRuntime,
     name: &str,
@@ -29,14 +44,8 @@ fn show<C: Chooser, F: Filler<C>>(
     chooser: &mut C,
 ) -> io::Result<()> {
     println!(rt; "{name}")?;
-    let mut bytes = [0; 18];
-    let mut text = [0; 54];
-    if let Ok(sizes) = Sizes::new(3, 3, 2) {
-        if plan(sizes, &MAP, filler, chooser, &mut bytes).is_ok() {
-            if let Ok(count) = list_plan(sizes, &bytes, &mut text) {
-                rt.stdout().write_all(&text[0..count])?;
-            }
-        }
+    if let Ok(text) = listing(filler, chooser, &mut [0; 54]) {
+        rt.stdout().write_all(text)?;
     }
     Ok(())
 }
@@ -46,7 +55,12 @@ fn show_register(rt: &HostRuntime) -> io::Result<()> {
     let place = Place { x: 0, y: 0 };
     if let Ok(mut register) = ShiftRegister::new(0xace1) {
         for _ in 0..2 {
-            let reply = register.choose(0, Way::Up, place, &[place, place, place]);
+            let reply = register.choose(Question {
+                plane: 0,
+                way: Way::Up,
+                router: place,
+                candidates: &[place, place, place],
+            });
             let state = register.state;
             println!(rt; "register {state:x} reply {reply}")?;
         }
@@ -54,30 +68,28 @@ fn show_register(rt: &HostRuntime) -> io::Result<()> {
     Ok(())
 }
 
-fn outcome<T: Drop>(r: Result<T, Refusal>) -> u8 {
-    match r {
-        Ok(_) => 0,
-        Err(refusal) => refusal.number(),
-    }
+// The number of a refusal; 0 stands for accepted.
+fn number<T: Drop>(outcome: Result<T, Refusal>) -> u8 {
+    outcome.err().map_or(0, Refusal::number)
 }
 
-// Prints what becomes of values at the edge of their range; 0 stands for accepted.
+// Prints what becomes of values at the edge of their range.
 fn show_edges(rt: &HostRuntime) -> io::Result<()> {
-    let alike = outcome(TurnOrder::new(0, 0, 0, 0));
-    let mixed = outcome(TurnOrder::new(0, 0, 0, 1));
+    let alike = number(TurnOrder::new(0, 0, 0, 0));
+    let mixed = number(TurnOrder::new(0, 0, 0, 1));
     println!(rt; "sets 0 0 0 0: {alike}, sets 0 0 0 1: {mixed}")?;
-    let widest = outcome(Sizes::new(24, 1, 1));
-    let wider = outcome(Sizes::new(25, 1, 1));
+    let widest = number(Sizes::new(24, 1, 1));
+    let wider = number(Sizes::new(25, 1, 1));
     println!(rt; "24 columns: {widest}, 25 columns: {wider}")?;
-    let zero = outcome(ShiftRegister::new(0));
+    let zero = number(ShiftRegister::new(0));
     println!(rt; "register 0: {zero}")
 }
 
-// Prints what becomes of a stack of so many planes without any link; 0 stands for accepted.
+// Prints what becomes of a stack of so many planes without any link.
 fn show_unlinked(rt: &HostRuntime, planes: u8) -> io::Result<()> {
     let mut bytes = [0; 18];
     if let Ok(sizes) = Sizes::new(3, 3, planes) {
-        let answer = outcome(plan(sizes, &[0; 9], &Optimistic, &mut First, &mut bytes));
+        let answer = number(plan(sizes, &[0; 9], &Optimistic, &mut First, &mut bytes));
         println!(rt; "{planes} planes without links: {answer}")?;
     }
     Ok(())

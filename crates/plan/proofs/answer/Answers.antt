@@ -4,7 +4,7 @@ use Rattle.plan.proofs.Served.{all_joined}
 use Rattle.plan.proofs.answer.Goals as goal
 
 pub list_stack-requires : goal.list_stack-requires
-list_stack-requires c = record { whole = omega arith; linked = all_joined (c.in-Ok.ensures.meaning (omega arith)) }
+list_stack-requires c = all_joined (c.in-Ok.ensures.meaning (omega arith))
 
 pub returns-in-Ok : goal.returns-in-Ok
 returns-in-Ok c = record { text = _; says = plan c.in-Ok.description c.read.new.map (c.in-Ok.ensures.meaning (omega arith)); listed = c.list_stack.ensures }

@@ -8,8 +8,8 @@ use Rattle.plan.proofs.list_stack.Goals as goal
 pub returns-in_err-plan : goal.returns-in_err-plan
 returns-in_err-plan c =
     absurd (⊎_elim
-    (λ s. long_enough c.args.description.sizes c.args.map.now (replicate 4608 0) c.requires.whole (omega (arith, length-replicate {A = ℕ} 4608 0)) s.0)
-    (λ u. u.1.2 (c.requires.linked u.1.0 u.1.1))
+    (λ s. long_enough c.args.description.sizes c.args.map.now (replicate 4608 0) (omega arith) (omega (arith, length-replicate {A = ℕ} 4608 0)) s.0)
+    (λ u. u.1.2 (c.requires u.1.0 u.1.1))
     c.in_err-plan.ensures.0)
 
 pub returns : goal.returns

@@ -1,13 +1,13 @@
 use Rattle.std.proofs.Common.{refl, ap, ◌∙◌}
-use Rattle.firmware.specs.Opening.{opened, refused}
-use Rattle.firmware.specs.Tables.{answer_code}
-use Rattle.firmware.proofs.Codes.{move_code}
+use Rattle.firmware.specs.Opening.{code, opened, refused}
+use Rattle.channel_laws.specs.declared.calls.Done.TheVariants.{Moved}
+use Rattle.firmware.proofs.Codes.{code_by}
 use Rattle.firmware.proofs.tables.tulgravyn_move.Goals as goal
 
 pub returns-in-Ok : goal.returns-in-Ok
 returns-in-Ok c =
-    opened c.in-Ok.open.sizes c.in-Ok.open.scheme c.in-Ok.ensures
-    (c.code.ensures ∙ move_code c.move_packet.result ∙ ap answer_code c.move_packet.ensures.answers, c.move_packet.ensures.leaves)
+    opened c.in-Ok.opened.sizes c.in-Ok.opened.scheme c.in-Ok.ensures
+    (c.code.ensures ∙ code_by (λ _. Moved) c.move_packet.result ∙ ap code c.move_packet.ensures.answers, c.move_packet.ensures.leaves)
 
 pub returns-in-Err : goal.returns-in-Err
 returns-in-Err c = refused c.in-Err.refusal c.in-Err.ensures (c.number.ensures, refl)

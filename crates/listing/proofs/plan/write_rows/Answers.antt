@@ -1,22 +1,6 @@
-use Rattle.std.proofs.Common.{arith, rules}
+use Rattle.std.proofs.Common.{arith}
 use Rattle.listing.proofs.Rows.{line_more, lines_all, row_within}
 use Rattle.listing.proofs.plan.write_rows.Goals as goal
-
-pub slice_bounds-write_row-end : goal.slice_bounds-write_row-end
-slice_bounds-write_row-end c =
-    let e = row_within c.args.width c.args.rows c.loop-row.row (omega arith) in search rules
-
-pub overflow_mul-start-in-loop-row : goal.overflow_mul-start-in-loop-row
-overflow_mul-start-in-loop-row c =
-    let e = row_within c.args.width c.args.rows c.loop-row.row (omega arith) in search rules
-
-pub overflow_mul-end : goal.overflow_mul-end
-overflow_mul-end c =
-    let e = row_within c.args.width c.args.rows c.loop-row.row (omega arith) in search rules
-
-pub slice_bounds-write_row-end-in-loop-row : goal.slice_bounds-write_row-end-in-loop-row
-slice_bounds-write_row-end-in-loop-row c =
-    let e = row_within c.args.width c.args.rows c.loop-row.row (omega arith) in search rules
 
 pub loop-row-preserved : goal.loop-row-preserved
 loop-row-preserved c =

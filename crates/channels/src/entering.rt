@@ -1,0 +1,89 @@
+// Where a port leads: the neighbour, and the buffer of it that a packet enters.
+ghost use Rattle.std.specs.Prelude.{◌≡◌, true, false};
+ghost use Rattle.mesh.specs.Layout.{in_stack};
+ghost use Rattle.routing_laws.specs.Chains.{back};
+ghost use Rattle.channel_laws.specs.Buffers.{entered, network};
+ghost use Rattle.channel_laws.specs.Calls.{entered_by};
+ghost use Rattle.channel_laws.specs.Ports.{leads_out, neighbour};
+
+use channel_laws::{Buffer, Network, Port, Record};
+use mesh::{Direction, Router, Sizes, Way};
+
+// The network that a packet rides.
+fn network(source: Router, destination: Router) -> Network
+    ensures { result ≡ network source destination }
+{
+    if destination.z < source.z {
+        Network::One
+    } else {
+        Network::Zero
+    }
+}
+
+// The side on which a packet comes in that moved in a direction.
+fn back(direction: Direction) -> Direction
+    ensures { result ≡ back direction }
+{
+    match direction {
+        Direction::North => Direction::South,
+        Direction::East => Direction::West,
+        Direction::South => Direction::North,
+        Direction::West => Direction::East,
+    }
+}
+
+// The buffer of the neighbour that a packet enters by a port.
+fn entered(port: Port, network: Network) -> Buffer
+    ensures { result ≡ entered port network }
+{
+    match port {
+        Port::Planar(direction) => Buffer::Side(network, back(direction)),
+        Port::Vertical(Way::Up) => Buffer::Below,
+        Port::Vertical(Way::Down) => Buffer::Above,
+    }
+}
+
+// The same of the packet of a record.
+pub(crate) fn entered_by(record: Record, port: Port) -> Buffer
+    ensures { result ≡ entered_by «record» port }
+{
+    entered(port, network(record.source, record.destination))
+}
+
+// The router to which a port leads.
+fn neighbour(sizes: Sizes, port: Port, router: Router) -> Router
+    requires { in_stack sizes router ≡ true }
+    ensures { result ≡ neighbour port router }
+{
+    let Router { x, y, z } = router;
+    match port {
+        Port::Planar(Direction::North) => Router { x, y: y + 1, z },
+        Port::Planar(Direction::East) => Router { x: x + 1, y, z },
+        Port::Planar(Direction::South) => Router {
+            x,
+            y: y.saturating_sub(1),
+            z,
+        },
+        Port::Planar(Direction::West) => Router {
+            x: x.saturating_sub(1),
+            y,
+            z,
+        },
+        Port::Vertical(Way::Up) => Router { x, y, z: z + 1 },
+        Port::Vertical(Way::Down) => Router {
+            x,
+            y,
+            z: z.saturating_sub(1),
+        },
+    }
+}
+
+// The same, where the port does not lead out of the stack.
+pub(crate) fn next_router(sizes: Sizes, port: Port, router: Router) -> Router
+    requires inside { in_stack sizes router ≡ true }
+    requires stays { leads_out sizes port router ≡ false }
+    ensures value { result ≡ neighbour port router }
+    ensures within { in_stack sizes result ≡ true }
+{
+    neighbour(sizes, port, router)
+}
