@@ -20,7 +20,9 @@ fn moves_of(answer: Answer) -> u16
 fn longest_way(answers: &[Answer]) -> u16
     ensures { result ≡ fold longer 0 answers.now }
 {
-    answers.iter().fold(0, |most, answer| most.max(moves_of(*answer)))
+    answers
+        .iter()
+        .fold(0, |most, answer| most.max(moves_of(*answer)))
 }
 
 // How many packets the table holds.
