@@ -14,7 +14,8 @@ use mesh::{Refusal, Sizes};
 use planner::plan;
 use routing::{Chooser, Filler, Guide};
 
-// Plans a stack, and clears the table. From here on the certificate holds, whatever calls are made.
+// Plans a stack, and clears the table. From here on the certificate holds, whatever calls are made. What a run works on
+// is lent piece by piece, as `plan` takes it.
 pub fn start_run<C: Chooser, F: Filler<C>>(
     sizes: Sizes,
     map: &[u8],

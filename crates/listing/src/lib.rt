@@ -6,4 +6,4 @@ mod fault;
 mod plan;
 
 pub use fault::list_fault;
-pub use plan::list_plan;
+pub use plan::{LONGEST, list_plan};

@@ -11,6 +11,9 @@ use mesh::{Refusal, Sizes};
 // The bytes of a text for each location byte: two digits, and the space or the newline after them.
 const EACH: usize = 3;
 
+// The text of the largest plan, 24 by 24 by 8 routers; that of a fault is shorter.
+pub const LONGEST: usize = 13_824;
+
 fn hex_digit(half: u8) -> u8
     requires { half < 16 }
     ensures { result ≡ hex_digit half }

@@ -1,4 +1,5 @@
-// The set of each direction. A value of this type never has all four directions in one set.
+// The set of each direction, 0 or 1: a number, as descriptions spell it and C hands it over. A value of this type never
+// has all four directions in one set.
 ghost use Rattle.std.specs.Prelude.{◌≡◌, ◌≤◌, ◌≢◌};
 
 #[derive(Clone, Copy)]

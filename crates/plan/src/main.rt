@@ -10,7 +10,7 @@ ghost use Rattle.routing_laws.specs.Elevators.{Joined};
 ghost use Rattle.plan.specs.Answering.{Answered, Says, safe_plan};
 
 use description::{Description, read};
-use listing::{list_fault, list_plan};
+use listing::{LONGEST, list_fault, list_plan};
 use mesh::{MAP_BYTES, Refusal};
 use planner::plan;
 use routing::{First, MdSafe};
@@ -19,10 +19,8 @@ use std::io::Read;
 // Only so many bytes of the input count: the largest description and one link more.
 const INPUT: usize = 16_142;
 
-// The location bytes of the largest stack, and their text.
+// The location bytes of the largest stack.
 const ROUTERS: usize = 4_608;
-
-const TEXT: usize = 13_824;
 
 // Plans a stack by MD-safe, and lists the location bytes.
 fn list_stack(
@@ -69,7 +67,7 @@ fn text_for<'a>(input: &[u8], out: &'a mut [u8]) -> Result<&'a [u8], Refusal>
 fn main(rt: HostRuntime) -> anyhow::Result<()> {
     let mut input = Vec::new(rt.alloc());
     rt.stdin().take(INPUT as u64).read_to_end(&mut input)?;
-    let mut out = [0; TEXT];
+    let mut out = [0; LONGEST];
     let text = text_for(&input, &mut out)?;
     rt.stdout().write_all(text)?;
     Ok(())

@@ -52,7 +52,8 @@ fn fill_gap<C: Chooser, F: Filler<C>>(
     fill_plane(above, filler, chooser, bytes);
 }
 
-// Fills every gap in turn. The bytes are those of the stack's routers and no more.
+// Fills every gap in turn: by its number, as it fills parts of two planes. The bytes are those of the stack's routers
+// and no more.
 fn fill_gaps<C: Chooser, F: Filler<C>>(gaps: Gaps, filler: &F, chooser: &mut C, bytes: &mut [u8])
     requires { length bytes.old ≡ gaps.sizes.planes * (gaps.sizes.width * gaps.sizes.height) }
     ensures writes { bytes.new ≡ planned (job gaps.entry.sizes gaps.entry.map.now (F.half filler.now) (F.next filler.now)) chooser.old }
@@ -64,7 +65,8 @@ fn fill_gaps<C: Chooser, F: Filler<C>>(gaps: Gaps, filler: &F, chooser: &mut C, 
     }
 }
 
-// Plans a stack: writes the location byte of each router, gap by gap.
+// Plans a stack: writes the location byte of each router, gap by gap. What it works on is lent piece by piece: a struct of
+// them would be made for this one call.
 pub fn plan<C: Chooser, F: Filler<C>>(
     sizes: Sizes,
     map: &[u8],

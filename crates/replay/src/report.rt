@@ -1,14 +1,11 @@
 // What a replay prints.
 use channel_laws::{Answer, Call, Done, Ports, Record};
 use description_laws::StackFault;
-use listing::{list_fault, list_plan};
+use listing::{LONGEST, list_fault, list_plan};
 use mesh::{Refusal, Router, Sizes};
 use runs::{Kind, count};
 use std::io::Write;
 use std::{fmt, io};
-
-// The text of the largest plan, and of any fault.
-const TEXT: usize = 13_824;
 
 #[derive(Clone, Copy)]
 struct Spot(Router);
@@ -58,14 +55,14 @@ impl fmt::Display for Numbers {
 }
 
 pub(crate) fn write_fault<W: Write>(out: &mut W, fault: StackFault) -> anyhow::Result<()> {
-    let mut text = [0; TEXT];
+    let mut text = [0; LONGEST];
     let count = list_fault(fault, &mut text)?;
     out.write_all(&text[..count])?;
     Ok(())
 }
 
 pub(crate) fn write_plan<W: Write>(out: &mut W, sizes: Sizes, bytes: &[u8]) -> anyhow::Result<()> {
-    let mut text = [0; TEXT];
+    let mut text = [0; LONGEST];
     let count = list_plan(sizes, bytes, &mut text)?;
     writeln!(out, "plan ok")?;
     out.write_all(&text[..count])?;
