@@ -31,24 +31,21 @@ fn tie_of(named: lines::Tie) -> Result<Tie, Refusal> {
     }
 }
 
-// A line for each packet that the table holds, in the order of its records: an empty buffer has no ports to tell. The
-// reply is how many there are.
+// A line for each packet that the table holds, in the order of its records: an empty buffer has no ports to tell.
 fn report_held<W: Write>(
     stack: &PlannedStack<'_>,
     scheme: Scheme,
     table: &[Record],
     out: &mut W,
-) -> anyhow::Result<usize> {
-    let mut held = 0usize;
+) -> anyhow::Result<()> {
     for (i, record) in table.iter().enumerate() {
         let router = stack.sizes.router_at(i / Buffer::COUNT);
         let buffer = (i % Buffer::COUNT) as u8;
         if let Ok(permitted) = stack.ports(&scheme, table, router, buffer) {
             write_held(out, router, buffer, *record, permitted)?;
-            held = held.saturating_add(1);
         }
     }
-    Ok(held)
+    Ok(())
 }
 
 // A stack that is planned, and the calls that are worked on it.
@@ -92,7 +89,8 @@ fn run<W: Write>(job: Job<'_>, chooser: &mut Tie, out: &mut W) -> anyhow::Result
         map,
         bytes: &bytes,
     };
-    let held = report_held(&stack, scheme, &table, out)?;
+    report_held(&stack, scheme, &table, out)?;
+    let held = table.iter().filter(|record| !record.is_empty()).count();
     write_totals(out, &answers, held)?;
     Ok(())
 }
