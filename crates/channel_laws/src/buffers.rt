@@ -35,7 +35,7 @@ pub struct Ports {
     pub down: bool,
 }
 
-// The four sides in the order in which buffers and ports are numbered.
+// The four sides in the order in which buffers and ports are numbered, which is not that of a half-byte's bits.
 fn side_at(number: u8) -> Direction
     ensures { result ≡ side_at number }
 {

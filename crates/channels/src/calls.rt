@@ -1,4 +1,5 @@
-// The calls on a channel table.
+// The calls on a channel table. Buffers and ports go by their numbers: any number may be asked for, and one outside is
+// refused.
 ghost use Rattle.std.specs.Prelude.{◌≡◌, ◌<◌, ◌≤◌, [], length};
 ghost use Rattle.channel_laws.specs.Calls.{clear_refusal, outcome, ports_reply};
 ghost use Rattle.channel_laws.specs.declared.calls.Call.TheVariants.{Move};

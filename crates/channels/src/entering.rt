@@ -20,7 +20,7 @@ fn network(source: Router, destination: Router) -> Network
     }
 }
 
-// The side on which a packet comes in that moved in a direction.
+// The side on which a packet comes in that moved in a direction: from a direction to a direction, and so no conversion.
 fn back(direction: Direction) -> Direction
     ensures { result ≡ back direction }
 {

@@ -14,7 +14,7 @@ pub struct Extent {
     pub planes: u8,
 }
 
-// The body of a record O: the set of each direction.
+// The body of a record O: the set of each direction, as a number that may be out of range.
 #[derive(Clone, Copy, PartialEq, Eq, Debug)]
 pub struct SetNumbers {
     pub north: u8,

@@ -111,6 +111,7 @@ pub extern "C" fn tulgravyn_collect(
     }
 }
 
+// C has a set of ports as bits.
 fn bit(set: bool, value: u8) -> u8
     ensures is { result ≡ bit set value }
     ensures most { result ≤ value }

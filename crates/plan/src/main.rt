@@ -22,7 +22,7 @@ const INPUT: usize = 16_142;
 // The location bytes of the largest stack.
 const ROUTERS: usize = 4_608;
 
-// Plans a stack by MD-safe, and lists the location bytes.
+// Plans a stack by MD-safe, and lists the location bytes at the front of `out`. The reply is how many bytes these are.
 fn list_stack(
     description: Description,
     map: &[u8; MAP_BYTES],

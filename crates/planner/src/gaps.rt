@@ -15,7 +15,7 @@ pub(crate) struct Gaps<'a> {
 }
 
 impl Gaps<'_> {
-    // The elevators of a gap, row by row.
+    // The elevators of a gap, row by row: the index of a byte of the map tells its place.
     pub(crate) fn elevators(self, gap: u8) -> Places
         requires { gap < self.sizes.planes - 1 }
         ensures list { result.items ≡ elevators self.entry.sizes.width self.entry.sizes.height self.entry.map.now gap }

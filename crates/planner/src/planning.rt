@@ -10,7 +10,8 @@ use crate::gaps::Gaps;
 use mesh::{Refusal, Sizes, Way};
 use routing::{Chooser, Filler, Task};
 
-// Fills one half of a plane among the bytes of all planes.
+// Fills one half of a plane among the bytes of all planes. The chooser and the bytes are lent beside the task: a struct that
+// lends two values to be changed is not covered by the check of borrows.
 fn fill_plane<C: Chooser, F: Filler<C>>(task: Task, filler: &F, chooser: &mut C, bytes: &mut [u8])
     requires some { 0 < length task.elevators.now }
     requires few { length task.elevators.now ≤ task.sizes.width * task.sizes.height }

@@ -13,7 +13,7 @@ use description_laws::{Extent, SetNumbers};
 use mesh::{Link, Router};
 use std::str::FromStr;
 
-// How location bytes are filled.
+// How location bytes are filled, as a script names it: its turn order is known only once the description is read.
 #[derive(Clone, Copy)]
 pub(crate) enum Scheme {
     MdSafe,
@@ -21,7 +21,7 @@ pub(crate) enum Scheme {
     Optimistic,
 }
 
-// How ties are settled.
+// How ties are settled, as a script names it: a register of zero is refused only when the stack is planned.
 #[derive(Clone, Copy)]
 pub(crate) enum Tie {
     First,

@@ -23,7 +23,7 @@ pub struct RandomOffline {
     pub order: TurnOrder,
 }
 
-// The smallest distance to an elevator.
+// The smallest distance to an elevator: a loop over the list, as the rule reads.
 fn least_distance(place: Place, elevators: &[Place]) -> u16
     requires { 0 < length elevators.now }
     ensures { result ≡ least place elevators.now }

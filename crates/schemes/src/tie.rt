@@ -1,4 +1,4 @@
-// How ties are settled.
+// How ties are settled. An enum and no trait object: it needs no heap.
 ghost use Rattle.schemes.specs.Ties.{tie_after, tie_position};
 ghost use Rattle.std.proofs.Common.{rules};
 
