@@ -1,5 +1,5 @@
-// The calls of a run, and what they answer. Buffers and ports go by their numbers: a number that is none of theirs can be
-// asked for, and is refused.
+// The calls of a run, and what they answer. Buffers and ports go by their numbers: a number that is none of theirs can
+// be asked for, and is refused.
 use crate::records::Record;
 use mesh::{Refusal, Router};
 

@@ -1,5 +1,5 @@
-// A record of the table, as C has it. Mark 0: empty, with every field 0. Mark 1: a packet. The mark is a number, since a
-// table that C lends may hold any, and a damaged one is refused.
+// A record of the table, as C has it. Mark 0: empty, with every field 0. Mark 1: a packet. The mark is a number, since
+// a table that C lends may hold any, and a damaged one is refused.
 ghost use Rattle.std.specs.Prelude.{◌≡◌};
 ghost use Rattle.channel_laws.specs.Table.{is_empty};
 

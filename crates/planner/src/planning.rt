@@ -10,8 +10,8 @@ use crate::gaps::Gaps;
 use mesh::{Refusal, Sizes, Way};
 use routing::{Chooser, Filler, Task};
 
-// Fills one half of a plane among the bytes of all planes. The chooser and the bytes are lent beside the task: a struct that
-// lends two values to be changed is not covered by the check of borrows.
+// Fills one half of a plane among the bytes of all planes. The chooser and the bytes are lent beside the task: a struct
+// that lends two values to be changed is not covered by the check of borrows.
 fn fill_plane<C: Chooser, F: Filler<C>>(task: Task, filler: &F, chooser: &mut C, bytes: &mut [u8])
     requires some { 0 < length task.elevators.now }
     requires few { length task.elevators.now ≤ task.sizes.width * task.sizes.height }
@@ -66,8 +66,8 @@ fn fill_gaps<C: Chooser, F: Filler<C>>(gaps: Gaps, filler: &F, chooser: &mut C, 
     }
 }
 
-// Plans a stack: writes the location byte of each router, gap by gap. What it works on is lent piece by piece: a struct of
-// them would be made for this one call.
+// Plans a stack: writes the location byte of each router, gap by gap. What it works on is lent piece by piece: a struct
+// of them would be made for this one call.
 pub fn plan<C: Chooser, F: Filler<C>>(
     sizes: Sizes,
     map: &[u8],

@@ -121,7 +121,8 @@ fn count_newlines(bytes: &[u8]) -> usize {
     bytes.iter().filter(|byte| **byte == b'\n').count()
 }
 
-// Reads a script, up to the first line that is not understood. Input that is not text is refused before any line is read.
+// Reads a script, up to the first line that is not understood. Input that is not text is refused before any line is
+// read.
 pub(crate) fn parse(heap: Global, input: &[u8]) -> Result<Script, Fault> {
     let text = from_utf8(input).map_err(|error| {
         let before = input.get(0..error.valid_up_to()).unwrap_or(input);

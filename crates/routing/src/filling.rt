@@ -19,8 +19,9 @@ pub struct Task<'a> {
 }
 
 // A filler's meaning is the half that it writes and the chooser's next state, both functions of what it is told
-// and of the chooser's state. A guide comes from its filler, so that no plan is read by a guide it was not made for. Only the planner calls `fill`: it always has an elevator to offer, never more
-// than a plane has places, and lends the bytes of exactly one plane.
+// and of the chooser's state. A guide comes from its filler, so that no plan is read by a guide it was not made for.
+// Only the planner calls `fill`: it always has an elevator to offer, never more than a plane has places, and lends the
+// bytes of exactly one plane.
 pub trait Filler<C: Chooser> {
     ghost half: { Self → Task → C → List ℕ };
 

@@ -1,5 +1,5 @@
-// The supplied choosers, fillers and guides as values that are picked while a program runs: one type for the ties, and one
-// for a filler together with its guide.
+// The supplied choosers, fillers and guides as values that are picked while a program runs: one type for the ties, and
+// one for a filler together with its guide.
 
 #![tactic(auto)]
 
