@@ -64,7 +64,7 @@ impl PlannedStack<'_> {
         }
     }
 
-    // Works a list of calls one by one, and writes what each answered.
+    // Works a list of calls one by one, and writes what each answered at the index of its call.
     fn work_all<G: Guide>(
         &self,
         guide: &G,
@@ -82,7 +82,8 @@ impl PlannedStack<'_> {
     }
 }
 
-// Starts a run, works a list of calls, and writes what each answered to the front of `answers`.
+// Starts a run, works a list of calls, and writes what each answered to the front of `answers`. It takes what
+// `start_run` does, piece by piece.
 pub fn run_script<C: Chooser, F: Filler<C>>(
     sizes: Sizes,
     map: &[u8],

@@ -1,5 +1,5 @@
 // The link map: a byte for each place of each gap.
-ghost use Rattle.std.specs.Prelude.{◌≡◌, ℕ, ◌+◌, ◌-◌, ◌*◌, ◌<◌, ◌≤◌, length, Decides, MatchBool};
+ghost use Rattle.std.specs.Prelude.{◌≡◌, ℕ, ◌+◌, ◌-◌, ◌*◌, ◌<◌, ◌≤◌, false, length, Decides, MatchBool};
 ghost use Rattle.mesh.specs.Layout.{Shown};
 
 use crate::stack::Sizes;
@@ -30,7 +30,8 @@ impl Sizes {
     // Whether every gap has a link: not in a map that is too short for them all. A loop, since a closure for `all`
     // would have to show for every number that the map has that gap.
     pub fn all_linked(self, map: &[u8]) -> bool
-        ensures { (self.planes - 1) * (self.width * self.height) ≤ length map.now → MatchBool result ((g : ℕ) → g < self.planes - 1 → Shown (self.width * self.height) map.now g) ((g : ℕ) × (g < self.planes - 1) × (Shown (self.width * self.height) map.now g → ⊥)) }
+        ensures short { length map.now < (self.planes - 1) * (self.width * self.height) → result ≡ false }
+        ensures linked { (self.planes - 1) * (self.width * self.height) ≤ length map.now → MatchBool result ((g : ℕ) → g < self.planes - 1 → Shown (self.width * self.height) map.now g) ((g : ℕ) × (g < self.planes - 1) × (Shown (self.width * self.height) map.now g → ⊥)) }
     {
         if map.len() < self.gaps() * self.area() {
             return false;

@@ -10,10 +10,14 @@ pub const MOST: usize = 576;
 
 pub type Places = ArrayVec<Place, MOST>;
 
-// Lists the places that pass a test, in their order: all that there are, up to `MOST`.
-pub fn list_passing<F: Fn(&Place) -> bool>(places: &[Place], passes: F, list: &mut Places)
+// Lists the places that pass a test, in their order: all that there are, up to the room that the list has.
+pub fn list_passing<F: Fn(&Place) -> bool, const N: usize>(
+    places: &[Place],
+    passes: F,
+    list: &mut ArrayVec<Place, N>,
+)
     requires { F.IsAlwaysCallable passes }
-    ensures { (test : Place → Bool) → ((p : _) (b : Bool) → F.post passes p b → b ≡ test p.now) → list.new.items ≡ take MOST (filter test places.now) }
+    ensures { (test : Place → Bool) → ((p : _) (b : Bool) → F.post passes p b → b ≡ test p.now) → list.new.items ≡ take N (filter test places.now) }
 {
     list.clear();
     for place in places {

@@ -1,7 +1,7 @@
 -- Random-offline: the candidates are exactly those that its rule names, and how its loops find them.
-use Rattle.std.proofs.Common.{◌≡◌, ℕ, zero, suc, ◌+◌, ◌*◌, ◌<◌, ◌≤◌, min, true, false, eqb, leb, ◌⊎◌, List, [], ◌∷◌, length, get_or, set, fold, filter, sym, refl, ap, ◌∙◌, subst, subst₂, inl, inr, ⊎_elim, arith, Contains, All}
+use Rattle.std.proofs.Common.{◌≡◌, ℕ, zero, suc, ◌+◌, ◌*◌, ◌<◌, ◌≤◌, min, true, false, eqb, leb, ◌⊎◌, List, [], ◌∷◌, length, get_or, set, fold, filter, sym, refl, ap, ◌∙◌, subst, subst₂, inl, inr, ⊎_elim, arith, Contains, All, Bool, cond, ◌++◌, take}
 use Rattle.std.proofs.lemmas.List.FromFn.{length-map-range_with_len}
-use Rattle.std.proofs.lemmas.List.Elements.{All-cons, All-nil, Contains-append_right, Contains-get_or}
+use Rattle.std.proofs.lemmas.List.Elements.{All-cons, All-nil, Contains-append_right, Contains-get_or, filter_more}
 use Rattle.std.proofs.lemmas.Bool.{and_from, and_parts, cases_lt, cond_both, cond-true, eq-eqb, eqb-true, le-leb, leb-true}
 use Rattle.mesh.specs.declared.compass.Direction.{Direction}
 use Rattle.mesh.specs.declared.compass.Direction.TheVariants.{North, East, South, West}
@@ -120,6 +120,12 @@ or_else_some (x ∷ xs) ys l = refl
 pub or_else_none : (xs ys : List Place) → length xs ≡ 0 → or_else xs ys ≡ ys
 or_else_none [] ys l = refl
 or_else_none (x ∷ xs) ys l = absurd (omega arith)
+
+-- a loop that keeps what passes, one turn
+pub kept_more : (test : Place → Bool) (es front front' : List Place) (i : ℕ) (b : Bool) → i < length es → front ≡ filter test (take i es) → b ≡ test (get_or es i origin)
+    → front' ≡ front ++ cond b (get_or es i origin ∷ []) [] → front' ≡ filter test (take (i + 1) es)
+kept_more test es front front' i b l before is after =
+    after ∙ (λ k. before k ++ cond (is k) (get_or es i origin ∷ []) []) ∙ sym (filter_more test es i origin l)
 
 -- the two ways in which the candidates are listed, with the smallest distance found before
 module _ (o : TurnOrder) (p : Place) (es : List Place) (m : ℕ) (found : m ≡ least p es) (some : 0 < length es) where

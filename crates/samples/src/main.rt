@@ -68,7 +68,7 @@ fn show_register(rt: &HostRuntime) -> io::Result<()> {
     Ok(())
 }
 
-// The number of a refusal; 0 stands for accepted.
+// What is printed of an outcome: the number of its refusal, and 0 where it is accepted.
 fn number<T: Drop>(outcome: Result<T, Refusal>) -> u8 {
     outcome.err().map_or(0, Refusal::number)
 }

@@ -14,9 +14,9 @@ loop-place-preserved g c = λ test says.
     let before = c.loop-place.invariant test says in
     let inside = c.loop-place-test.true in
     elim c.if-passes.branch [
-      | then-passes+then-not-is_full w ↦ ap (λ v. v.items) w.list-is ∙ w.push.ensures.items ∙ one_kept test 576 places i origin inside kept.items before (is ∙ w.if-passes.true) (omega (arith, w.is_full.ensures.fits, eqb-false (length kept.items) 576 (sym w.is_full.ensures.value ∙ w.if-not-is_full.true)))
+      | then-passes+then-not-is_full w ↦ ap (λ v. v.items) w.list-is ∙ w.push.ensures.items ∙ one_kept test g.row.N places i origin inside kept.items before (is ∙ w.if-passes.true) (omega (arith, w.is_full.ensures.fits, eqb-false (length kept.items) g.row.N (sym w.is_full.ensures.value ∙ w.if-not-is_full.true)))
       | else-passes w ↦ ap (λ v. v.items) w.list-is ∙ elim w.else-passes.branch [
-        | else-passes-via-then-passes+else-not-is_full w' ↦ one_over test 576 places i origin inside kept.items before (omega (arith, eqb-true (length kept.items) 576 (sym w'.is_full.ensures.value ∙ w'.if-not-is_full.false)))
-        | else-passes-via-else-passes w' ↦ one_left test 576 places i origin inside kept.items before (is ∙ w'.if-passes.false)
+        | else-passes-via-then-passes+else-not-is_full w' ↦ one_over test g.row.N places i origin inside kept.items before (omega (arith, eqb-true (length kept.items) g.row.N (sym w'.is_full.ensures.value ∙ w'.if-not-is_full.false)))
+        | else-passes-via-else-passes w' ↦ one_left test g.row.N places i origin inside kept.items before (is ∙ w'.if-passes.false)
       ]
     ]
