@@ -23,7 +23,7 @@ pub returns-then-not-all_linked : goal.returns-then-not-all_linked
 returns-then-not-all_linked g c =
     let s = c.args.sizes in
     let here = (goal.at.returns-then-not-all_linked g c).After-all_linked in
-    let (gap, inside, unlinked) = c.if-not-all_linked.ensures (whole g here) in
+    let (gap, inside, unlinked) = c.if-not-all_linked.ensures.linked (whole g here) in
     (inr (long g here, (gap, inside, λ j. unlinked (shown_joined s.width s.height s.some_columns s.some_rows c.args.map.now gap (covered g here gap inside) j)), refl), refl, refl)
 
 pub invariant_of-fill_gaps : goal.invariant_of-fill_gaps
@@ -33,7 +33,7 @@ invariant_of-fill_gaps g c =
     record {
       whole = whole g here;
       linked = λ gap inside.
-          let shown = c.if-not-all_linked.ensures (whole g here) gap inside in
+          let shown = c.if-not-all_linked.ensures.linked (whole g here) gap inside in
           joined_some s.width s.height s.some_columns s.some_rows c.args.map.now gap (joined_shown s.width s.height s.some_columns s.some_rows c.args.map.now gap (covered g here gap inside) shown);
     }
 
@@ -42,7 +42,7 @@ returns g c =
     let s = c.args.sizes in
     let here = (goal.at.returns g c).After-all_linked in (
       long g here,
-      λ gap inside. joined_shown s.width s.height s.some_columns s.some_rows c.args.map.now gap (covered g here gap inside) (c.if-not-all_linked.ensures (whole g here) gap inside),
+      λ gap inside. joined_shown s.width s.height s.some_columns s.some_rows c.args.map.now gap (covered g here gap inside) (c.if-not-all_linked.ensures.linked (whole g here) gap inside),
       λ i. c.fill_gaps.ensures.writes i ++ drop (c.routers-routers.ensures i) c.args.bytes.now,
       c.fill_gaps.ensures.goes,
     )
