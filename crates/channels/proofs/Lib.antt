@@ -1,4 +1,3 @@
-pub mod Within
 pub mod Guided
 pub mod Stepping
 pub mod Reasons

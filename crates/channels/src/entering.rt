@@ -1,5 +1,5 @@
 // Where a port leads: the neighbour, and the buffer of it that a packet enters.
-ghost use Rattle.std.specs.Prelude.{◌≡◌, true, false};
+ghost use Rattle.std.specs.Prelude.{◌≡◌, true, false, MatchOption};
 ghost use Rattle.mesh.specs.Layout.{in_stack};
 ghost use Rattle.routing_laws.specs.Chains.{back};
 ghost use Rattle.channel_laws.specs.Buffers.{entered, network};
@@ -20,7 +20,7 @@ fn network(source: Router, destination: Router) -> Network
     }
 }
 
-// The side on which a packet comes in that moved in a direction: from a direction to a direction, and so no conversion.
+// The side on which a packet comes in that moved in a direction. No `From`: it turns a direction into another.
 fn back(direction: Direction) -> Direction
     ensures { result ≡ back direction }
 {
@@ -43,29 +43,29 @@ fn entered(port: Port, network: Network) -> Buffer
     }
 }
 
-// The same of the packet of a record.
+// The buffer that the packet of a record enters by a port.
 pub(crate) fn entered_by(record: Record, port: Port) -> Buffer
     ensures { result ≡ entered_by «record» port }
 {
     entered(port, network(record.source, record.destination))
 }
 
-// The router to which a port leads.
-fn neighbour(sizes: Sizes, port: Port, router: Router) -> Router
+// The router to which a port leads, if the stack has it.
+pub(crate) fn neighbour(sizes: Sizes, port: Port, router: Router) -> Option<Router>
     requires { in_stack sizes router ≡ true }
-    ensures { result ≡ neighbour port router }
+    ensures { MatchOption result (leads_out sizes port router ≡ true) (λ q. (leads_out sizes port router ≡ false) × (q ≡ neighbour port router) × (in_stack sizes q ≡ true)) }
 {
     let Router { x, y, z } = router;
-    match port {
+    let next = match port {
         Port::Planar(Direction::North) => Router { x, y: y + 1, z },
         Port::Planar(Direction::East) => Router { x: x + 1, y, z },
         Port::Planar(Direction::South) => Router {
             x,
-            y: y.saturating_sub(1),
+            y: y.checked_sub(1)?,
             z,
         },
         Port::Planar(Direction::West) => Router {
-            x: x.saturating_sub(1),
+            x: x.checked_sub(1)?,
             y,
             z,
         },
@@ -73,17 +73,8 @@ fn neighbour(sizes: Sizes, port: Port, router: Router) -> Router
         Port::Vertical(Way::Down) => Router {
             x,
             y,
-            z: z.saturating_sub(1),
+            z: z.checked_sub(1)?,
         },
-    }
-}
-
-// The same, where the port does not lead out of the stack.
-pub(crate) fn next_router(sizes: Sizes, port: Port, router: Router) -> Router
-    requires inside { in_stack sizes router ≡ true }
-    requires stays { leads_out sizes port router ≡ false }
-    ensures value { result ≡ neighbour port router }
-    ensures within { in_stack sizes result ≡ true }
-{
-    neighbour(sizes, port, router)
+    };
+    if sizes.has(next) { Some(next) } else { None }
 }

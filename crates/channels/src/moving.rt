@@ -3,8 +3,8 @@ ghost use Rattle.std.specs.Prelude.{◌≡◌, ◌≤◌, Some, MatchResult};
 ghost use Rattle.channel_laws.specs.Calls.{carried, move_refusal};
 ghost use Rattle.channels.specs.Results.{Steps, state_of};
 
-use crate::entering::{entered_by, next_router};
-use crate::spots::{leads_out, record_number};
+use crate::entering::{entered_by, neighbour};
+use crate::spots::record_number;
 use crate::stacks::PlannedStack;
 use channel_laws::{Port, Record};
 use mesh::{Refusal, Router};
@@ -50,10 +50,7 @@ impl PlannedStack<'_> {
         if !self.permitted_ports(guide, held).has(port) {
             return Err(Refusal::NotPermitted);
         }
-        if leads_out(self.sizes, port, router) {
-            return Err(Refusal::LeavesStack);
-        }
-        let neighbour = next_router(self.sizes, port, router);
+        let neighbour = neighbour(self.sizes, port, router).ok_or(Refusal::LeavesStack)?;
         let to = record_number(self.sizes, neighbour, entered_by(held.packet, port));
         if !table[to].is_empty() {
             return Err(Refusal::Occupied);

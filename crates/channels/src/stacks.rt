@@ -9,7 +9,8 @@ use crate::spots::table_size;
 use channel_laws::Record;
 use mesh::{Refusal, Sizes};
 
-// A stack as it was planned: its sizes, its link map and its location bytes.
+// A stack as it was planned: its sizes, its link map and its location bytes. The table is no part of it, as it alone is
+// changed, nor is the guide, which only two calls ask; a router and a buffer's number stand beside, as a call has them.
 #[derive(Clone, Copy)]
 pub struct PlannedStack<'a> {
     pub sizes: Sizes,

@@ -5,19 +5,14 @@ ghost use Rattle.description.specs.Unread.{Unreadable};
 
 use crate::bytes::{letter, link_body, order_body, sizes_body};
 use description_laws::{Record, RecordFault};
-use mesh::{LAST_SET, MOST_COLUMNS, MOST_PLANES, MOST_ROWS, Refusal, Sizes};
+use mesh::{MOST_COLUMNS, MOST_PLANES, MOST_ROWS, Refusal, Sizes, TurnOrder};
 
 fn in_range(record: Record) -> bool
     ensures { Decides result (InRange «record») }
 {
     match record {
         Record::Stack(extent) => Sizes::try_from(extent).is_ok(),
-        Record::Order(sets) => {
-            sets.north <= LAST_SET
-                && sets.east <= LAST_SET
-                && sets.south <= LAST_SET
-                && sets.west <= LAST_SET
-        }
+        Record::Order(sets) => TurnOrder::try_from(sets).err() != Some(Refusal::OutOfRange),
         Record::Pillar(link) => {
             link.x < MOST_COLUMNS && link.y < MOST_ROWS && link.gap < MOST_PLANES - 1
         }

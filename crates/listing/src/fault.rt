@@ -12,7 +12,7 @@ use mesh::Refusal;
 // two spaces and the newline.
 const ROOM: usize = 32;
 
-// A function and no `Display`: the text goes into lent bytes, by equality with its definition.
+// Not a `Display`: `write!` may fail by its contract.
 fn word(layer: Layer) -> &'static str
     ensures { result.now ≡ word layer }
 {

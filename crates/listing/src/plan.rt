@@ -96,7 +96,7 @@ fn plan_size(sizes: Sizes) -> usize
 }
 
 // Lists the location bytes of a plan, a line to each row of a plane, planes and rows rising. The reply is the number
-// of bytes written at the front of `out`; what lies beyond them stays. Refused, with `out` as it was, where there are
+// of bytes written at the front of `out`, which is the caller's, as there is no heap; what lies beyond them stays. Refused, with `out` as it was, where there are
 // fewer bytes than routers or the text does not fit.
 pub fn list_plan(sizes: Sizes, bytes: &[u8], out: &mut [u8]) -> Result<usize, Refusal>
     ensures few { length bytes.now < sizes.planes * (sizes.width * sizes.height) → (result ≡ Err ShortBuffer) × (out.new ≡ out.old) }

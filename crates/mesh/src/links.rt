@@ -27,8 +27,8 @@ impl Sizes {
         map[gap * area..(gap + 1) * area].contains(&LINK)
     }
 
-    // Whether every gap has a link: not in a map that is too short for them all. A loop, since a closure for `all`
-    // would have to show for every number that the map has that gap.
+    // Whether every gap has a link: not in a map that is too short for them all. A loop: by `chunks_exact` and `all` the
+    // proof did not close.
     pub fn all_linked(self, map: &[u8]) -> bool
         ensures short { length map.now < (self.planes - 1) * (self.width * self.height) → result ≡ false }
         ensures linked { (self.planes - 1) * (self.width * self.height) ≤ length map.now → MatchBool result ((g : ℕ) → g < self.planes - 1 → Shown (self.width * self.height) map.now g) ((g : ℕ) × (g < self.planes - 1) × (Shown (self.width * self.height) map.now g → ⊥)) }

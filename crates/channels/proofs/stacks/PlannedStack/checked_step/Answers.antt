@@ -19,10 +19,11 @@ returns g c =
     let found : Found s c.args.router c.args.buffer c.in_ok-held.held = search rules in
     let port = port_known c.args.port c.in_ok-port.port (search rules) in
     let long : short s ≡ false = search rules in
+    let next : c.in_ok-neighbour.neighbour ≡ neighbour c.in_ok-port.port c.args.router = search rules in
     record {
       allowed = move_goes (g.G.Guide.reply c.args.guide.now) s c.args.router c.args.buffer c.args.port c.in_ok-held.held c.in_ok-port.port found port.1 long port.0 (search rules) (search rules) (search rules) (search rules);
       source = found.index;
-      target = c.record_number-to.ensures.value ∙ (λ i. record_number s.sizes (c.next_router-neighbour.ensures.value i) (c.entered_by.ensures i)) ∙ (λ i. record_number s.sizes (neighbour (port.1 i) c.args.router) (entered_by (found.packet i) (port.1 i)));
+      target = c.record_number-to.ensures.value ∙ (λ i. record_number s.sizes (next i) (c.entered_by.ensures i)) ∙ (λ i. record_number s.sizes (neighbour (port.1 i) c.args.router) (entered_by (found.packet i) (port.1 i)));
       packet = search rules;
       source_below = search rules;
       target_below = search rules;
