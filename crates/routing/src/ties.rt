@@ -72,8 +72,6 @@ fn settle<C: Chooser>(
     late: &mut Places,
     chooser: &mut C,
 ) -> Place
-    requires some { 0 < length task.elevators.now }
-    requires few { length task.elevators.now ≤ 576 }
     ensures settles { result ≡ target C.position C.after order task.entry.plane task.entry.way task.entry.elevators.now place chooser.old }
     ensures goes { chooser.new ≡ onward C.position C.after order task.entry.plane task.entry.way task.entry.elevators.now place chooser.old }
 {
@@ -92,9 +90,7 @@ fn settle<C: Chooser>(
 
 // One half of a plane, router by router.
 fn settle_all<C: Chooser>(order: TurnOrder, task: Task, chooser: &mut C, bytes: &mut [u8])
-    requires some { 0 < length task.elevators.now }
-    requires few { length task.elevators.now ≤ 576 }
-    requires whole { length bytes.old ≡ task.sizes.width * task.sizes.height }
+    requires { length bytes.old ≡ task.sizes.width * task.sizes.height }
     ensures writes { bytes.new ≡ put_halves task.entry.way bytes.old (tie_half C.position C.after order (task_of task.entry) chooser.old) }
     ensures goes { chooser.new ≡ tie_next C.position C.after order (task_of task.entry) chooser.old }
 {

@@ -6,7 +6,7 @@ use Rattle.routing_laws.proofs.Ties.{tie_all, tie_more, tie_none}
 use Rattle.routing.proofs.ties.settle_all.Goals as goal
 
 pub loop-i-init : goal.loop-i-init
-loop-i-init g c = tie_none c.requires.whole
+loop-i-init g c = tie_none c.requires
 
 pub loop-i-preserved : goal.loop-i-preserved
 loop-i-preserved g c =
