@@ -23,6 +23,13 @@ pub struct RandomOffline {
     pub order: TurnOrder,
 }
 
+// Room for the lists of a router, lent to one router after the other.
+#[derive(Drop)]
+struct Rooms {
+    nearest: Places,
+    late: Places,
+}
+
 // The smallest distance to an elevator: a loop over the list, as the rule reads.
 fn least_distance(place: Place, elevators: &[Place]) -> u16
     requires { 0 < length elevators.now }
@@ -38,30 +45,26 @@ fn least_distance(place: Place, elevators: &[Place]) -> u16
 impl RandomOffline {
     // The candidates of a router, listed in the room lent: of its nearest elevators those that need directions of the
     // last set alone, or all where none does.
-    fn candidates<'a>(
-        self,
-        place: Place,
-        elevators: &[Place],
-        nearest: &'a mut Places,
-        late: &'a mut Places,
-    ) -> &'a [Place]
-        requires some { 0 < length elevators.now }
-        requires few { length elevators.now ≤ 576 }
-        ensures list { result.now ≡ candidates self.order place elevators.now }
+    fn candidates<'a>(self, task: Task, place: Place, rooms: &'a mut Rooms) -> &'a [Place]
+        ensures list { result.now ≡ candidates self.order place task.entry.elevators.now }
         ensures some { 0 < length result.now }
     {
-        let least = least_distance(place, elevators);
+        let least = least_distance(place, task.elevators);
         list_passing(
-            elevators,
+            task.elevators,
             |elevator| place.distance(*elevator) == least,
-            nearest,
+            &mut rooms.nearest,
         );
         list_passing(
-            nearest,
-            |elevator| { self.order.lowest(Directions::toward(place, *elevator)) >= LAST_SET },
-            late,
+            &rooms.nearest,
+            |elevator| self.order.lowest(Directions::toward(place, *elevator)) >= LAST_SET,
+            &mut rooms.late,
         );
-        if late.is_empty() { nearest } else { late }
+        if rooms.late.is_empty() {
+            &rooms.nearest
+        } else {
+            &rooms.late
+        }
     }
 
     // The elevator that a router points at: the chooser is asked only where two or more candidates remain.
@@ -69,14 +72,13 @@ impl RandomOffline {
         self,
         task: Task,
         place: Place,
-        nearest: &mut Places,
-        late: &mut Places,
+        rooms: &mut Rooms,
         chooser: &mut C,
     ) -> Place
         ensures settles { result ≡ target C.position C.after self.order task.entry.plane task.entry.way task.entry.elevators.now place chooser.old }
         ensures goes { chooser.new ≡ onward C.position C.after self.order task.entry.plane task.entry.way task.entry.elevators.now place chooser.old }
     {
-        let candidates = self.candidates(place, task.elevators, nearest, late);
+        let candidates = self.candidates(task, place, rooms);
         if candidates.len() < 2 {
             return candidates[0];
         }
@@ -95,11 +97,13 @@ impl RandomOffline {
         ensures writes { bytes.new ≡ put_halves task.entry.way bytes.old (tie_half C.position C.after self.order (task_of task.entry) chooser.old) }
         ensures goes { chooser.new ≡ tie_next C.position C.after self.order (task_of task.entry) chooser.old }
     {
-        let mut nearest = Places::new();
-        let mut late = Places::new();
+        let mut rooms = Rooms {
+            nearest: Places::new(),
+            late: Places::new(),
+        };
         for (i, byte) in bytes.iter_mut().enumerate() {
             let place = task.sizes.place_at(i);
-            let elevator = self.settle(task, place, &mut nearest, &mut late, chooser);
+            let elevator = self.settle(task, place, &mut rooms, chooser);
             *byte = task.way.with_half(*byte, pointing(place, elevator));
         }
     }
