@@ -10,8 +10,8 @@ use crate::gaps::Gaps;
 use mesh::{Refusal, Sizes, Way};
 use routing::{Chooser, Filler, Task};
 
-// Fills one half of a plane among the bytes of all planes. The chooser and the bytes are lent beside the task: a struct
-// that lends two values to be changed is not covered by the check of borrows.
+// Fills one half of a plane among the bytes of all planes. The chooser and the bytes stand beside the task, as in
+// `Filler::fill`: a task is only read, and those two are changed.
 fn fill_plane<C: Chooser, F: Filler<C>>(task: Task, filler: &F, chooser: &mut C, bytes: &mut [u8])
     requires { task.plane * (task.sizes.width * task.sizes.height) + task.sizes.width * task.sizes.height ≤ length bytes.old }
     ensures writes { bytes.new ≡ put_plane (task.entry.sizes.width * task.entry.sizes.height) task.entry.plane task.entry.way bytes.old (F.half filler.now (task_of task.entry) chooser.old) }

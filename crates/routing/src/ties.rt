@@ -30,7 +30,7 @@ struct Rooms {
     late: Places,
 }
 
-// The smallest distance to an elevator: a loop over the list, as the rule reads.
+// The smallest distance to an elevator: a loop, the form asked for where elevators are gone through.
 fn least_distance(place: Place, elevators: &[Place]) -> u16
     requires { 0 < length elevators.now }
     ensures { result ≡ least place elevators.now }
@@ -91,7 +91,7 @@ impl RandomOffline {
         candidates[chooser.choose(question)]
     }
 
-    // One half of a plane, router by router.
+    // One half of a plane, router by router. Its loop is not `write_half`: the chooser changes from router to router.
     fn settle_all<C: Chooser>(self, task: Task, chooser: &mut C, bytes: &mut [u8])
         requires { length bytes.old ≡ task.sizes.width * task.sizes.height }
         ensures writes { bytes.new ≡ put_halves task.entry.way bytes.old (tie_half C.position C.after self.order (task_of task.entry) chooser.old) }
