@@ -54,6 +54,12 @@ impl<C: Chooser> Filler<C> for InnerElevators {
             &inner
         };
         let filler = RandomOffline { order: self.order };
-        filler.fill(Task { elevators, ..task }, chooser, bytes);
+        let offer = Task {
+            sizes: task.sizes,
+            plane: task.plane,
+            way: task.way,
+            elevators,
+        };
+        filler.fill(offer, chooser, bytes);
     }
 }

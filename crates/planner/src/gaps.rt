@@ -8,8 +8,8 @@ use routing::Places;
 // A value of this type exists only where the map covers every gap, and every gap has an elevator.
 #[derive(Clone, Copy)]
 pub(crate) struct Gaps<'a> {
-    pub sizes: Sizes,
-    pub map: &'a [u8],
+    pub(crate) sizes: Sizes,
+    pub(crate) map: &'a [u8],
     ghost whole: { (sizes.planes - 1) * (sizes.width * sizes.height) ≤ length map.now },
     ghost linked: { (g : ℕ) → g < sizes.planes - 1 → 0 < length (elevators sizes.width sizes.height map.now g) },
 }

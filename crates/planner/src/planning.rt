@@ -10,12 +10,10 @@ use crate::gaps::Gaps;
 use mesh::{Refusal, Sizes, Way};
 use routing::{Chooser, Filler, Task};
 
-// Fills one half of a plane among the bytes of all planes. The chooser and the bytes are lent beside the task: a struct
-// that lends two values to be changed is not covered by the check of borrows.
+// Fills one half of a plane among the bytes of all planes. The chooser and the bytes stand beside the task, as in
+// `Filler::fill`: a task is only read, and those two are changed.
 fn fill_plane<C: Chooser, F: Filler<C>>(task: Task, filler: &F, chooser: &mut C, bytes: &mut [u8])
-    requires some { 0 < length task.elevators.now }
-    requires few { length task.elevators.now ≤ task.sizes.width * task.sizes.height }
-    requires fits { task.plane * (task.sizes.width * task.sizes.height) + task.sizes.width * task.sizes.height ≤ length bytes.old }
+    requires { task.plane * (task.sizes.width * task.sizes.height) + task.sizes.width * task.sizes.height ≤ length bytes.old }
     ensures writes { bytes.new ≡ put_plane (task.entry.sizes.width * task.entry.sizes.height) task.entry.plane task.entry.way bytes.old (F.half filler.now (task_of task.entry) chooser.old) }
     ensures goes { chooser.new ≡ F.next filler.now (task_of task.entry) chooser.old }
 {
@@ -45,9 +43,10 @@ fn fill_gap<C: Chooser, F: Filler<C>>(
         elevators: &elevators,
     };
     let above = Task {
+        sizes: gaps.sizes,
         plane: gap + 1,
         way: Way::Down,
-        ..below
+        elevators: &elevators,
     };
     fill_plane(below, filler, chooser, bytes);
     fill_plane(above, filler, chooser, bytes);

@@ -2,27 +2,30 @@
 ghost use Rattle.std.specs.Prelude.{◌≡◌, ℕ, ◌*◌, ◌<◌, ◌≤◌, List, length, All, Contains};
 ghost use Rattle.mesh.specs.declared.grid.Place.{Place};
 ghost use Rattle.mesh.specs.Layout.{Inside};
-ghost use Rattle.routing_laws.specs.Filling.{Task, put_halves};
-ghost use Rattle.routing.specs.Telling.{task_of};
 
 use crate::choosing::Chooser;
 use crate::guiding::Guide;
 use mesh::{Place, Sizes, Way};
 
-// One half of one plane: what a filler is told.
+// One half of one plane: what a filler is told. There is always an elevator to offer, and never more than a plane has
+// places.
 #[derive(Clone, Copy)]
 pub struct Task<'a> {
     pub sizes: Sizes,
     pub plane: u8,
     pub way: Way,
     pub elevators: &'a [Place],
+    ghost some: { 0 < length elevators.now },
+    ghost few: { length elevators.now ≤ sizes.width * sizes.height },
 }
 
 // A filler's meaning is the half that it writes and the chooser's next state, both functions of what it is told
 // and of the chooser's state. A guide comes from its filler, so that no plan is read by a guide it was not made for.
-// Only the planner calls `fill`: it always has an elevator to offer, never more than a plane has places, and lends the
-// bytes of exactly one plane.
+// The planner lends `fill` the bytes of exactly one plane.
 pub trait Filler<C: Chooser> {
+    ghost use Rattle.routing_laws.specs.Filling.{Task, put_halves};
+    ghost use Rattle.routing.specs.Telling.{task_of};
+
     ghost half: { Self → Task → C → List ℕ };
 
     ghost next: { Self → Task → C → C };
@@ -36,9 +39,7 @@ pub trait Filler<C: Chooser> {
         ensures { result ≡ partner self.now };
 
     fn fill(&self, task: Task, chooser: &mut C, bytes: &mut [u8])
-        requires some { 0 < length task.elevators.now }
-        requires few { length task.elevators.now ≤ task.sizes.width * task.sizes.height }
-        requires whole { length bytes.old ≡ task.sizes.width * task.sizes.height }
+        requires { length bytes.old ≡ task.sizes.width * task.sizes.height }
         ensures writes { bytes.new ≡ put_halves task.entry.way bytes.old (half self.now (task_of task.entry) chooser.old) }
         ensures goes { chooser.new ≡ next self.now (task_of task.entry) chooser.old };
 

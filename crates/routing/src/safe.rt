@@ -17,8 +17,8 @@ pub struct MdSafe {
     pub order: TurnOrder,
 }
 
-// The position of the last listed elevator of smallest distance: a loop over the list with its index, as the rule
-// reads.
+// The position of the last listed elevator of smallest distance: a loop with the index, the form asked for where
+// elevators are gone through.
 fn last_nearest(place: Place, elevators: &[Place]) -> usize
     requires { 0 < length elevators.now }
     ensures { LastNearest elevators.now place result }

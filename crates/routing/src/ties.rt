@@ -23,7 +23,14 @@ pub struct RandomOffline {
     pub order: TurnOrder,
 }
 
-// The smallest distance to an elevator: a loop over the list, as the rule reads.
+// Room for the lists of a router, lent to one router after the other.
+#[derive(Drop)]
+struct Rooms {
+    nearest: Places,
+    late: Places,
+}
+
+// The smallest distance to an elevator: a loop, the form asked for where elevators are gone through.
 fn least_distance(place: Place, elevators: &[Place]) -> u16
     requires { 0 < length elevators.now }
     ensures { result ≡ least place elevators.now }
@@ -35,75 +42,70 @@ fn least_distance(place: Place, elevators: &[Place]) -> u16
     least
 }
 
-// The candidates of a router, listed in the room lent: of its nearest elevators those that need directions of the last
-// set alone, or all where none does.
-fn candidates<'a>(
-    order: TurnOrder,
-    place: Place,
-    elevators: &[Place],
-    nearest: &'a mut Places,
-    late: &'a mut Places,
-) -> &'a [Place]
-    requires some { 0 < length elevators.now }
-    requires few { length elevators.now ≤ 576 }
-    ensures list { result.now ≡ candidates order place elevators.now }
-    ensures some { 0 < length result.now }
-{
-    let least = least_distance(place, elevators);
-    list_passing(
-        elevators,
-        |elevator| place.distance(*elevator) == least,
-        nearest,
-    );
-    list_passing(
-        nearest,
-        |elevator| order.lowest(Directions::toward(place, *elevator)) >= LAST_SET,
-        late,
-    );
-    if late.is_empty() { nearest } else { late }
-}
-
-// The elevator that a router points at: the chooser is asked only where two or more candidates remain.
-fn settle<C: Chooser>(
-    order: TurnOrder,
-    task: Task,
-    place: Place,
-    nearest: &mut Places,
-    late: &mut Places,
-    chooser: &mut C,
-) -> Place
-    requires some { 0 < length task.elevators.now }
-    requires few { length task.elevators.now ≤ 576 }
-    ensures settles { result ≡ target C.position C.after order task.entry.plane task.entry.way task.entry.elevators.now place chooser.old }
-    ensures goes { chooser.new ≡ onward C.position C.after order task.entry.plane task.entry.way task.entry.elevators.now place chooser.old }
-{
-    let candidates = candidates(order, place, task.elevators, nearest, late);
-    if candidates.len() < 2 {
-        return candidates[0];
+impl RandomOffline {
+    // The candidates of a router, listed in the room lent: of its nearest elevators those that need directions of the
+    // last set alone, or all where none does.
+    fn candidates<'a>(self, task: Task, place: Place, rooms: &'a mut Rooms) -> &'a [Place]
+        ensures list { result.now ≡ candidates self.order place task.entry.elevators.now }
+        ensures some { 0 < length result.now }
+    {
+        let least = least_distance(place, task.elevators);
+        list_passing(
+            task.elevators,
+            |elevator| place.distance(*elevator) == least,
+            &mut rooms.nearest,
+        );
+        list_passing(
+            &rooms.nearest,
+            |elevator| self.order.lowest(Directions::toward(place, *elevator)) >= LAST_SET,
+            &mut rooms.late,
+        );
+        if rooms.late.is_empty() {
+            &rooms.nearest
+        } else {
+            &rooms.late
+        }
     }
-    let question = Question {
-        plane: task.plane,
-        way: task.way,
-        router: place,
-        candidates,
-    };
-    candidates[chooser.choose(question)]
-}
 
-// One half of a plane, router by router.
-fn settle_all<C: Chooser>(order: TurnOrder, task: Task, chooser: &mut C, bytes: &mut [u8])
-    requires some { 0 < length task.elevators.now }
-    requires few { length task.elevators.now ≤ 576 }
-    requires whole { length bytes.old ≡ task.sizes.width * task.sizes.height }
-    ensures writes { bytes.new ≡ put_halves task.entry.way bytes.old (tie_half C.position C.after order (task_of task.entry) chooser.old) }
-    ensures goes { chooser.new ≡ tie_next C.position C.after order (task_of task.entry) chooser.old }
-{
-    let mut nearest = Places::new();
-    let mut late = Places::new();
-    for (i, byte) in bytes.iter_mut().enumerate() {
-        let place = task.sizes.place_at(i);
-        let elevator = settle(order, task, place, &mut nearest, &mut late, chooser);
-        *byte = task.way.with_half(*byte, pointing(place, elevator));
+    // The elevator that a router points at: the chooser is asked only where two or more candidates remain.
+    fn settle<C: Chooser>(
+        self,
+        task: Task,
+        place: Place,
+        rooms: &mut Rooms,
+        chooser: &mut C,
+    ) -> Place
+        ensures settles { result ≡ target C.position C.after self.order task.entry.plane task.entry.way task.entry.elevators.now place chooser.old }
+        ensures goes { chooser.new ≡ onward C.position C.after self.order task.entry.plane task.entry.way task.entry.elevators.now place chooser.old }
+    {
+        let candidates = self.candidates(task, place, rooms);
+        if candidates.len() < 2 {
+            return candidates[0];
+        }
+        let question = Question {
+            plane: task.plane,
+            way: task.way,
+            router: place,
+            candidates,
+        };
+        candidates[chooser.choose(question)]
+    }
+
+    // One half of a plane, router by router. Its loop is not `write_half`: the chooser changes from router to router.
+    fn settle_all<C: Chooser>(self, task: Task, chooser: &mut C, bytes: &mut [u8])
+        requires { length bytes.old ≡ task.sizes.width * task.sizes.height }
+        ensures writes { bytes.new ≡ put_halves task.entry.way bytes.old (tie_half C.position C.after self.order (task_of task.entry) chooser.old) }
+        ensures goes { chooser.new ≡ tie_next C.position C.after self.order (task_of task.entry) chooser.old }
+    {
+        let mut rooms = Rooms {
+            nearest: Places::new(),
+            late: Places::new(),
+        };
+        for (i, byte) in bytes.iter_mut().enumerate() {
+            let place = task.sizes.place_at(i);
+            let elevator = self.settle(task, place, &mut rooms, chooser);
+            *byte = task.way.with_half(*byte, pointing(place, elevator));
+        }
     }
 }
 
@@ -127,6 +129,6 @@ impl<C: Chooser> Filler<C> for RandomOffline {
     }
 
     fn fill(&self, task: Task, chooser: &mut C, bytes: &mut [u8]) {
-        settle_all(self.order, task, chooser, bytes);
+        self.settle_all(task, chooser, bytes);
     }
 }

@@ -1,5 +1,5 @@
-// How location bytes are filled, and by which turn order they are read. An enum and no trait object: it needs no heap,
-// and is the type of its own guide.
+// How location bytes are filled, and by which turn order they are read. An enum and no trait object: functions
+// hand it out by value, without the heap.
 use mesh::TurnOrder;
 
 #[derive(Clone, Copy)]

@@ -1,4 +1,4 @@
-// How ties are settled. An enum and no trait object: it needs no heap.
+// How ties are settled. An enum and no trait object: functions hand it out by value, without the heap.
 ghost use Rattle.schemes.specs.Ties.{tie_after, tie_position};
 ghost use Rattle.std.proofs.Common.{rules};
 

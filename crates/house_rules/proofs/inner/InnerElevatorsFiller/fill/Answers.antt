@@ -19,7 +19,7 @@ offers g c =
     let es = c.args.task.elevators.now in
     let test = inner s.width s.height in
     let list = c.list_passing.new.list.items in
-    let kept = c.list_passing.ensures test (λ e b h. search rules) ∙ all_kept test 576 es (omega (arith, c.requires.few, mul-le s.width s.height 24 24 s.few_columns s.few_rows)) in
+    let kept = c.list_passing.ensures test (λ e b h. search rules) ∙ all_kept test 576 es (omega (arith, c.args.task.few, mul-le s.width s.height 24 24 s.few_columns s.few_rows)) in
     elim c.if-is_empty.branch [
       | then-is_empty w ↦
           let none = eqb-true (length list) 0 (sym c.is_empty.ensures ∙ w.if-is_empty.true) in
@@ -29,12 +29,12 @@ offers g c =
           ap (λ r. r.now) w.elevators-is ∙ w.deref-elevators.ensures.0 ∙ kept ∙ sym (or_else_some (filter test es) es (omega (arith, ap length kept)))
     ]
 
-pub fill-requires-clause-few : goal.fill-requires-clause-few
-fill-requires-clause-few g c =
+pub invariant_of-offer-clause-few : goal.invariant_of-offer-clause-few
+invariant_of-offer-clause-few g c =
     let s = c.args.task.sizes in
     let es = c.args.task.elevators.now in
     let fewer = either_few (filter (inner s.width s.height) es) es (omega (arith, length-filter_both (inner s.width s.height) (λ p. not (inner s.width s.height p)) (λ _. refl) es)) in
-    omega (arith, ap length (offers g (goal.at.fill-requires-clause-few g c).Joined-is_empty), fewer, c.requires.few)
+    omega (arith, ap length (offers g (goal.at.invariant_of-offer-clause-few g c).Joined-is_empty), fewer, c.args.task.few)
 
 pub returns-clause-writes : goal.returns-clause-writes
 returns-clause-writes g c =

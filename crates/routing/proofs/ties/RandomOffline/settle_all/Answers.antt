@@ -3,16 +3,16 @@ use Rattle.mesh.specs.Halves.{with_half}
 use Rattle.routing_laws.specs.Nearest.{pointing}
 use Rattle.routing_laws.specs.Ties.{onward, target}
 use Rattle.routing_laws.proofs.Ties.{tie_all, tie_more, tie_none}
-use Rattle.routing.proofs.ties.settle_all.Goals as goal
+use Rattle.routing.proofs.ties.RandomOffline.settle_all.Goals as goal
 
 pub loop-i-init : goal.loop-i-init
-loop-i-init g c = tie_none c.requires.whole
+loop-i-init g c = tie_none c.requires
 
 pub loop-i-preserved : goal.loop-i-preserved
 loop-i-preserved g c =
     let position = g.C.Chooser.position in
     let after = g.C.Chooser.after in
-    let o = c.args.order in
+    let o = c.args.self.order in
     let z = c.args.task.plane in
     let way = c.args.task.way in
     let es = c.args.task.elevators.now in
