@@ -2,6 +2,7 @@
 // 24 columns wide, and a place of a plane is its index, row by row.
 use crate::planning::plan_safely;
 use mesh::Sizes;
+use std::cmp::Ordering;
 use std::process::Abort;
 use std::test::Fail;
 
@@ -26,19 +27,15 @@ fn last_nearest(links: &[u8], place: usize) -> usize {
 
 // North is 1, East 2, South 4 and West 8.
 fn pointing(from: usize, to: usize) -> u8 {
-    let along = if to / COLUMNS > from / COLUMNS {
-        1
-    } else if to / COLUMNS < from / COLUMNS {
-        4
-    } else {
-        0
+    let along = match (to / COLUMNS).cmp(&(from / COLUMNS)) {
+        Ordering::Greater => 1,
+        Ordering::Less => 4,
+        Ordering::Equal => 0,
     };
-    let across = if to % COLUMNS > from % COLUMNS {
-        2
-    } else if to % COLUMNS < from % COLUMNS {
-        8
-    } else {
-        0
+    let across = match (to % COLUMNS).cmp(&(from % COLUMNS)) {
+        Ordering::Greater => 2,
+        Ordering::Less => 8,
+        Ordering::Equal => 0,
     };
     along | across
 }
@@ -62,10 +59,9 @@ fn compare(rt: &impl Abort, bytes: &[u8], above: &[u8], below: &[u8]) {
 fn mark(map: &mut [u8], gap: usize, places: &[(usize, usize)]) -> Result<(), Fail> {
     for (x, y) in places {
         let row = gap.wrapping_mul(24).wrapping_add(*y);
-        match map.get_mut(row.wrapping_mul(COLUMNS).wrapping_add(*x)) {
-            Some(byte) => *byte = 1,
-            None => return Err(Fail::new("no such place")),
-        }
+        let place = row.wrapping_mul(COLUMNS).wrapping_add(*x);
+        *map.get_mut(place)
+            .ok_or_else(|| Fail::new("no such place"))? = 1;
     }
     Ok(())
 }

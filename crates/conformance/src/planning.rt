@@ -19,9 +19,9 @@ fn refused(
     refusal: Refusal,
 ) -> Result<(), Fail> {
     let mut bytes = [7; 28];
-    let Some(front) = bytes.get_mut(0..len) else {
-        return Err(Fail::new("too many bytes"));
-    };
+    let front = bytes
+        .get_mut(0..len)
+        .ok_or_else(|| Fail::new("too many bytes"))?;
     let answer = plan_safely(Sizes::new(3, 3, planes)?, map, front);
     assert_eq!(rt; answer, Err(refusal));
     assert!(rt; begins(&bytes, &[]));

@@ -1,5 +1,5 @@
 // Readings: what is accepted, and every refusal with its layer, its number and its place.
-use crate::samples::{SAMPLE, largest_unfinished};
+use crate::samples::{SAMPLE, all, largest_unfinished};
 use description::read;
 use description_laws::Layer;
 use mesh::{MAP_BYTES, Refusal};
@@ -7,7 +7,7 @@ use std::process::Abort;
 use std::test::Fail;
 
 // A map one byte too short, and one with room beyond.
-const MAP_LESS: usize = 4_031;
+const MAP_LESS: usize = MAP_BYTES - 1;
 
 const ROOM: usize = 4_050;
 
@@ -18,10 +18,6 @@ fn layer_for(refusal: Refusal) -> Layer {
         Refusal::UnknownLetter | Refusal::OutOfRange => Layer::Record,
         _ => Layer::Stack,
     }
-}
-
-fn all(bytes: &[u8], value: u8) -> bool {
-    bytes.iter().all(|byte| *byte == value)
 }
 
 // Whether the bytes are 1 at these indices and 0 elsewhere.
@@ -228,9 +224,7 @@ fn every_byte_first_and_after_the_end(rt: HostRuntime) -> Result<(), Fail> {
 // What the sample says besides its links, read into the shortest map.
 fn sample_is_understood(rt: &impl Abort) -> Result<(), Fail> {
     let mut map = [7; MAP_BYTES];
-    let Ok(description) = read(SAMPLE, &mut map) else {
-        return Err(Fail::new("refused"));
-    };
+    let description = read(SAMPLE, &mut map).map_err(|_| Fail::new("refused"))?;
     let sizes = description.sizes;
     let order = description.order;
     assert_eq!(rt; (sizes.width, sizes.height, sizes.planes), (3, 3, 2));

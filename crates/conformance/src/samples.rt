@@ -12,12 +12,16 @@ pub(crate) const SAMPLE_PLAN: [u8; 18] = [
     0x20, 0x00,
 ];
 
+// Whether every byte has this value.
+pub(crate) fn all(bytes: &[u8], value: u8) -> bool {
+    bytes.iter().all(|byte| *byte == value)
+}
+
 // Whether a buffer of 7s now begins so, and is 7 beyond.
 pub(crate) fn begins(buffer: &[u8], front: &[u8]) -> bool {
-    match buffer.strip_prefix(front) {
-        Some(beyond) => beyond.iter().all(|byte| *byte == 7),
-        None => false,
-    }
+    buffer
+        .strip_prefix(front)
+        .is_some_and(|beyond| all(beyond, 7))
 }
 
 // East and West first.

@@ -57,7 +57,7 @@ fn parse_byte(word: &str) -> Result<u8, Reason> {
     Ok(u8::try_from(parse_number(word)?)?)
 }
 
-// As many bytes as are asked for, a word to each. A loop: an array's `try_map` over words has no generated proof.
+// As many bytes as are asked for, a word to each. A loop: tried with an array's `try_map`: the proof did not close.
 fn parse_bytes<const N: usize>(words: &[&str]) -> Result<[u8; N], Reason> {
     if words.len() != N {
         return Err(Reason::WordCount);

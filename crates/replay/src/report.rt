@@ -37,6 +37,7 @@ struct Numbers(Ports);
 impl fmt::Display for Numbers {
     fn fmt<W: fmt::Write>(&self, f: &mut fmt::Formatter<W>) -> fmt::Result {
         let Ports { planar, up, down } = self.0;
+        // The ports in the order of their numbers.
         let set = [
             planar.east,
             planar.west,

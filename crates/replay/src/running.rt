@@ -6,14 +6,14 @@ use crate::report::{
 use crate::script::Script;
 use channel_laws::{Answer, Buffer, Call, Done, Record};
 use channels::{PlannedStack, run_script, table_size};
-use description::{Description, read};
-use mesh::{MAP_BYTES, Refusal, TurnOrder};
+use description::read;
+use mesh::{MAP_BYTES, Refusal, Sizes, TurnOrder};
 use routing::ShiftRegister;
 use schemes::{Scheme, Tie};
 use std::alloc::Global;
 use std::io::Write;
 
-// The scheme that a script names, with the turn order of its stack.
+// The scheme that a script names. No `From`: it needs the turn order of the stack besides.
 fn scheme_of(named: lines::Scheme, order: TurnOrder) -> Scheme {
     match named {
         lines::Scheme::MdSafe => Scheme::MdSafe(order),
@@ -23,11 +23,15 @@ fn scheme_of(named: lines::Scheme, order: TurnOrder) -> Scheme {
 }
 
 // The tie rule that a script names: a register of zero is refused.
-fn tie_of(named: lines::Tie) -> Result<Tie, Refusal> {
-    match named {
-        lines::Tie::First => Ok(Tie::First),
-        lines::Tie::Last => Ok(Tie::Last),
-        lines::Tie::Register(state) => Ok(Tie::Register(ShiftRegister::new(state)?)),
+impl TryFrom<lines::Tie> for Tie {
+    type Error = Refusal;
+
+    fn try_from(named: lines::Tie) -> Result<Tie, Refusal> {
+        match named {
+            lines::Tie::First => Ok(Tie::First),
+            lines::Tie::Last => Ok(Tie::Last),
+            lines::Tie::Register(state) => Ok(Tie::Register(ShiftRegister::new(state)?)),
+        }
     }
 }
 
@@ -48,25 +52,16 @@ fn report_held<W: Write>(
     Ok(())
 }
 
-// A stack that is planned, and the calls that are worked on it.
-#[derive(Clone, Copy)]
-struct Job<'a> {
-    heap: Global,
-    description: Description,
-    map: &'a [u8],
-    scheme: Scheme,
-    calls: &'a [Call],
-}
-
 // Plans the stack, works the calls, and reports the plan, what each call did, and what the table holds in the end.
-fn run<W: Write>(job: Job<'_>, chooser: &mut Tie, out: &mut W) -> anyhow::Result<()> {
-    let Job {
-        heap,
-        description: Description { sizes, .. },
-        map,
-        scheme,
-        calls,
-    } = job;
+fn run<W: Write>(
+    heap: Global,
+    sizes: Sizes,
+    map: &[u8],
+    scheme: Scheme,
+    calls: &[Call],
+    chooser: &mut Tie,
+    out: &mut W,
+) -> anyhow::Result<()> {
     let mut bytes = vec![in heap; 0; sizes.routers()]?;
     let mut table = vec![in heap; Record::EMPTY; table_size(sizes)]?;
     let mut answers: Vec<Answer> = vec![in heap; Ok(Done::Injected); calls.len()]?;
@@ -102,15 +97,13 @@ pub(crate) fn work<W: Write>(heap: Global, script: &Script, out: &mut W) -> anyh
         Ok(description) => description,
         Err(fault) => return write_fault(out, fault),
     };
-    match tie_of(script.planning.tie) {
+    match Tie::try_from(script.planning.tie) {
         Ok(mut chooser) => run(
-            Job {
-                heap,
-                description,
-                map: &map,
-                scheme: scheme_of(script.planning.scheme, description.order),
-                calls: &script.calls,
-            },
+            heap,
+            description.sizes,
+            &map,
+            scheme_of(script.planning.scheme, description.order),
+            &script.calls,
             &mut chooser,
             out,
         ),

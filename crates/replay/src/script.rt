@@ -18,7 +18,7 @@ pub(crate) struct Script {
     pub(crate) calls: Vec<Call>,
 }
 
-// What may come next: a state and no closure, as a line may be any.
+// Which lines may come next: `add` shows all of them in one match.
 #[derive(Clone, Copy)]
 enum Stage {
     Stack,

@@ -23,3 +23,10 @@ of_kind kinds.Refused (Ok done.Injected) = false
 of_kind kinds.Refused (Ok done.Moved) = false
 of_kind kinds.Refused (Ok (done.Collected x)) = false
 of_kind kinds.Refused (Err x) = true
+
+-- the kind of an answer
+abbrev pub kind_of : Answer → Kind
+kind_of (Ok done.Injected) = kinds.Injected
+kind_of (Ok done.Moved) = kinds.Moved
+kind_of (Ok (done.Collected x)) = kinds.Collected
+kind_of (Err x) = kinds.Refused

@@ -1,6 +1,6 @@
 // What a run comes to, by the answers of its calls.
 ghost use Rattle.std.specs.Prelude.{◌≡◌, count_by};
-ghost use Rattle.runs.specs.Counting.{of_kind};
+ghost use Rattle.runs.specs.Counting.{kind_of, of_kind};
 
 use channel_laws::{Answer, Done};
 
@@ -13,15 +13,17 @@ pub enum Kind {
     Refused,
 }
 
-fn is_of(kind: Kind, answer: Answer) -> bool
-    ensures { result ≡ of_kind kind answer }
-{
-    match (kind, answer) {
-        (Kind::Injected, Ok(Done::Injected)) => true,
-        (Kind::Moved, Ok(Done::Moved)) => true,
-        (Kind::Collected, Ok(Done::Collected(_))) => true,
-        (Kind::Refused, Err(_)) => true,
-        _ => false,
+// What kind of answer this is.
+impl From<Answer> for Kind {
+    ghost from_gives = { λ a k. k ≡ kind_of a };
+
+    fn from(answer: Answer) -> Kind {
+        match answer {
+            Ok(Done::Injected) => Kind::Injected,
+            Ok(Done::Moved) => Kind::Moved,
+            Ok(Done::Collected(_)) => Kind::Collected,
+            Err(_) => Kind::Refused,
+        }
     }
 }
 
@@ -31,6 +33,6 @@ pub fn count(kind: Kind, answers: &[Answer]) -> usize
 {
     answers
         .iter()
-        .filter(|answer| is_of(kind, **answer))
+        .filter(|answer| Kind::from(**answer) == kind)
         .count()
 }

@@ -72,12 +72,11 @@ fn travel(map: &[u8], answers: &mut [Answer]) -> Result<(), Refusal> {
 }
 
 // Prints what each call of the journey answered.
-pub(crate) fn show_journey(rt: &HostRuntime, map: &[u8]) -> io::Result<()> {
+pub(crate) fn show_journey(rt: &HostRuntime, map: &[u8]) -> anyhow::Result<()> {
     let mut answers = [Ok(Done::Injected); 7];
-    if travel(map, &mut answers).is_ok() {
-        for answer in answers {
-            show_answer(rt, answer)?;
-        }
+    travel(map, &mut answers)?;
+    for answer in answers {
+        show_answer(rt, answer)?;
     }
     Ok(())
 }

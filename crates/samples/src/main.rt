@@ -42,28 +42,26 @@ fn show<C: Chooser, F: Filler<C>>(
     name: &str,
     filler: &F,
     chooser: &mut C,
-) -> io::Result<()> {
+) -> anyhow::Result<()> {
     println!(rt; "{name}")?;
-    if let Ok(text) = listing(filler, chooser, &mut [0; 54]) {
-        rt.stdout().write_all(text)?;
-    }
+    rt.stdout()
+        .write_all(listing(filler, chooser, &mut [0; 54])?)?;
     Ok(())
 }
 
 // Asks a register twice at a list of three, and prints state and reply.
-fn show_register(rt: &HostRuntime) -> io::Result<()> {
+fn show_register(rt: &HostRuntime) -> anyhow::Result<()> {
     let place = Place { x: 0, y: 0 };
-    if let Ok(mut register) = ShiftRegister::new(0xace1) {
-        for _ in 0..2 {
-            let reply = register.choose(Question {
-                plane: 0,
-                way: Way::Up,
-                router: place,
-                candidates: &[place, place, place],
-            });
-            let state = register.state;
-            println!(rt; "register {state:x} reply {reply}")?;
-        }
+    let mut register = ShiftRegister::new(0xace1)?;
+    for _ in 0..2 {
+        let reply = register.choose(Question {
+            plane: 0,
+            way: Way::Up,
+            router: place,
+            candidates: &[place, place, place],
+        });
+        let state = register.state;
+        println!(rt; "register {state:x} reply {reply}")?;
     }
     Ok(())
 }
@@ -86,37 +84,34 @@ fn show_edges(rt: &HostRuntime) -> io::Result<()> {
 }
 
 // Prints what becomes of a stack of so many planes without any link.
-fn show_unlinked(rt: &HostRuntime, planes: u8) -> io::Result<()> {
+fn show_unlinked(rt: &HostRuntime, planes: u8) -> anyhow::Result<()> {
+    let sizes = Sizes::new(3, 3, planes)?;
     let mut bytes = [0; 18];
-    if let Ok(sizes) = Sizes::new(3, 3, planes) {
-        let answer = number(plan(sizes, &[0; 9], &Optimistic, &mut First, &mut bytes));
-        println!(rt; "{planes} planes without links: {answer}")?;
-    }
+    let answer = number(plan(sizes, &[0; 9], &Optimistic, &mut First, &mut bytes));
+    println!(rt; "{planes} planes without links: {answer}")?;
     Ok(())
 }
 
-fn show_orders(rt: &HostRuntime) -> io::Result<()> {
-    if let Ok(order) = TurnOrder::new(1, 0, 1, 0) {
-        show(rt, "md-safe", &MdSafe { order }, &mut First)?;
-        show(
-            rt,
-            "random-offline, XY, first",
-            &RandomOffline { order },
-            &mut First,
-        )?;
-    }
-    if let Ok(order) = TurnOrder::new(1, 0, 0, 0) {
-        show(
-            rt,
-            "random-offline, North-Last, last",
-            &RandomOffline { order },
-            &mut Last,
-        )?;
-    }
+fn show_orders(rt: &HostRuntime) -> anyhow::Result<()> {
+    let xy = TurnOrder::new(1, 0, 1, 0)?;
+    show(rt, "md-safe", &MdSafe { order: xy }, &mut First)?;
+    show(
+        rt,
+        "random-offline, XY, first",
+        &RandomOffline { order: xy },
+        &mut First,
+    )?;
+    let north_last = TurnOrder::new(1, 0, 0, 0)?;
+    show(
+        rt,
+        "random-offline, North-Last, last",
+        &RandomOffline { order: north_last },
+        &mut Last,
+    )?;
     show(rt, "optimistic", &Optimistic, &mut First)
 }
 
-fn main(rt: HostRuntime) -> io::Result<()> {
+fn main(rt: HostRuntime) -> anyhow::Result<()> {
     samples_hold();
     show_orders(&rt)?;
     show_register(&rt)?;
