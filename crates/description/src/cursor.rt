@@ -37,7 +37,7 @@ impl<'a> Cursor<'a> {
         }
     }
 
-    // A refusal of the next record becomes its fault.
+    // A refusal of the next record becomes its fault. By `refuse` in the closure the proof did not close.
     pub(crate) fn or_fault<T: Copy>(self, answer: Result<T, Refusal>) -> Result<T, StackFault>
         ensures { MatchResult result (λ x. answer ≡ Ok x) (λ f. (r : Refusal) × (answer ≡ Err r) × (f ≡ Stack r (length self.entry.input.now - length self.entry.rest.now))) }
     {

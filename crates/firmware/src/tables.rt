@@ -1,5 +1,6 @@
 // The calls on a channel table. C lends each buffer by itself and takes a number for an answer, so these are functions
-// of many parameters, and each turns a refusal into its number.
+// of many parameters, and each turns a refusal into its number by a `match`: an inner function for `?` would have every
+// clause twice.
 ghost use Rattle.std.specs.Prelude.{◌≡◌, ◌≤◌, cond, []};
 ghost use Rattle.mesh.specs.Numbers.{number_of};
 ghost use Rattle.channel_laws.specs.declared.calls.Call.TheVariants.{Move};

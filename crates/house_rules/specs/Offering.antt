@@ -15,6 +15,7 @@ either_some : (xs ys : List Place) → 0 < length ys → 0 < length (or_else xs 
 either_some [] ys l = l
 either_some (x ∷ xs) ys l = omega arith
 
+-- and is no longer than the longer of them
 pub either_few : (xs ys : List Place) → length xs ≤ length ys → length (or_else xs ys) ≤ length ys
 either_few [] ys l = omega arith
 either_few (x ∷ xs) ys l = l
