@@ -51,6 +51,7 @@ pub(crate) fn entered_by(record: Record, port: Port) -> Buffer
 }
 
 // The router to which a port leads, if the stack has it.
+#[inline(always)]
 pub(crate) fn neighbour(sizes: Sizes, port: Port, router: Router) -> Option<Router>
     requires { in_stack sizes router ≡ true }
     ensures { MatchOption result (leads_out sizes port router ≡ true) (λ q. (leads_out sizes port router ≡ false) × (q ≡ neighbour port router) × (in_stack sizes q ≡ true)) }

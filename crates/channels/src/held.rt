@@ -31,6 +31,7 @@ fn is_damaged(sizes: Sizes, record: Record) -> bool
 
 impl PlannedStack<'_> {
     // The sound packet in a buffer of the stack, or the first reason why there is none.
+    #[inline(always)]
     pub(crate) fn packet_at(
         &self,
         table: &[Record],

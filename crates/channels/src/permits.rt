@@ -52,6 +52,7 @@ impl PlannedStack<'_> {
     }
 
     // The ports that a packet is permitted.
+    #[inline(always)]
     pub(crate) fn permitted_ports<G: Guide>(&self, guide: &G, held: Held) -> Ports
         ensures { result ≡ permitted_ports (G.reply guide.now) (state_of self.now []) held.router held.buffer held.packet }
     {

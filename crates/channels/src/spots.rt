@@ -15,6 +15,7 @@ pub fn table_size(sizes: Sizes) -> usize
 }
 
 // The number of the record of a router's buffer.
+#[inline(always)]
 pub(crate) fn record_number(sizes: Sizes, router: Router, buffer: Buffer) -> usize
     requires { in_stack sizes router ≡ true }
     ensures value { result ≡ record_number sizes router buffer }

@@ -38,6 +38,7 @@ impl<'a> Cursor<'a> {
     }
 
     // A refusal of the next record becomes its fault. By `refuse` in the closure the proof did not close.
+    #[inline(always)]
     pub(crate) fn or_fault<T: Copy>(self, answer: Result<T, Refusal>) -> Result<T, StackFault>
         ensures { MatchResult result (λ x. answer ≡ Ok x) (λ f. (r : Refusal) × (answer ≡ Err r) × (f ≡ Stack r (length self.entry.input.now - length self.entry.rest.now))) }
     {
@@ -46,6 +47,7 @@ impl<'a> Cursor<'a> {
     }
 
     // The next record, and the input after it.
+    #[inline(always)]
     pub(crate) fn next(self) -> Result<(Record, Cursor<'a>), RecordFault>
         ensures { MatchResult result (λ v. (v.1.input.now ≡ self.entry.input.now) × (self.entry.rest.now ≡ spelled v.0 ++ v.1.rest.now) × InRange v.0) (λ f. Unreadable self.entry.rest.now (length self.entry.input.now - length self.entry.rest.now) f) }
     {

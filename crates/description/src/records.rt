@@ -21,6 +21,7 @@ fn in_range(record: Record) -> bool
 }
 
 // A letter is looked at before its body is.
+#[inline(always)]
 fn whole_record(input: &[u8], place: usize) -> Result<(Record, &[u8]), RecordFault>
     ensures { MatchResult result (λ v. input.now ≡ spelled v.0 ++ v.1.now) (λ f. Unreadable input.now place f) }
 {
@@ -46,6 +47,7 @@ fn whole_record(input: &[u8], place: usize) -> Result<(Record, &[u8]), RecordFau
     }
 }
 
+#[inline(always)]
 pub(crate) fn next_record(input: &[u8], place: usize) -> Result<(Record, &[u8]), RecordFault>
     ensures { MatchResult result (λ v. (input.now ≡ spelled v.0 ++ v.1.now) × InRange v.0) (λ f. Unreadable input.now place f) }
 {
