@@ -24,7 +24,7 @@ number_of NotPermitted = 16
 number_of LeavesStack = 17
 number_of NotArrived = 18
 
--- what a number is: that of a refusal, or of none
+-- what a number is: that of a refusal, or of none, and then it is handed back
 abbrev pub NumberOf : ℕ → Result Refusal UnknownNumber → Type 0
 NumberOf n (Ok x) = number_of x ≡ n
-NumberOf n (Err e) = (x : Refusal) → number_of x ≢ n
+NumberOf n (Err e) = (e.0 ≡ n) × ((x : Refusal) → number_of x ≢ n)
