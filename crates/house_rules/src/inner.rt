@@ -48,7 +48,8 @@ impl<C: Chooser> Filler<C> for InnerElevators {
             |elevator| is_inner(task.sizes, *elevator),
             &mut inner,
         );
-        let elevators = if inner.is_empty() {
+        let none_inner = inner.is_empty();
+        let elevators = if none_inner {
             task.elevators
         } else {
             &inner

@@ -15,21 +15,21 @@ pub(crate) struct Gaps<'a> {
 }
 
 impl Gaps<'_> {
-    // The elevators of a gap, row by row: the index of a byte of the map tells its place.
-    pub(crate) fn elevators(self, gap: u8) -> Places
+    // Lists the elevators of a gap, row by row, in the list lent: by value it would stand on the stack twice. The index
+    // of a byte of the map tells its place.
+    pub(crate) fn elevators(self, gap: u8, list: &mut Places)
         requires { gap < self.sizes.planes - 1 }
-        ensures list { result.items ≡ elevators self.entry.sizes.width self.entry.sizes.height self.entry.map.now gap }
-        ensures exact { Listed self.entry.sizes.width self.entry.sizes.height self.entry.map.now gap result.items }
+        ensures list { list.new.items ≡ elevators self.entry.sizes.width self.entry.sizes.height self.entry.map.now gap }
+        ensures exact { Listed self.entry.sizes.width self.entry.sizes.height self.entry.map.now gap list.new.items }
     {
         let area = self.sizes.area();
         let start = usize::from(gap) * area;
-        let mut list = Places::new();
+        list.clear();
         for (i, link) in self.map[start..start + area].iter().enumerate() {
             let is_link = *link == LINK;
             if is_link {
                 list.push(self.sizes.place_at(i));
             }
         }
-        list
     }
 }

@@ -8,7 +8,7 @@ ghost use Rattle.routing_laws.specs.Plan.{Planned, after_gap, begun, chooser_aft
 
 use crate::gaps::Gaps;
 use mesh::{Refusal, Sizes, Way};
-use routing::{Chooser, Filler, Task};
+use routing::{Chooser, Filler, Places, Task};
 
 // Fills one half of a plane among the bytes of all planes. The chooser and the bytes stand beside the task, as in
 // `Filler::fill`: a task is only read, and those two are changed.
@@ -35,7 +35,8 @@ fn fill_gap<C: Chooser, F: Filler<C>>(
     ensures writes { bytes.new ≡ after_gap (job gaps.entry.sizes gaps.entry.map.now (F.half filler.now) (F.next filler.now)) chooser.old gap bytes.old }
     ensures goes { chooser.new ≡ chooser_after (job gaps.entry.sizes gaps.entry.map.now (F.half filler.now) (F.next filler.now)) chooser.old gap }
 {
-    let elevators = gaps.elevators(gap);
+    let mut elevators = Places::new();
+    gaps.elevators(gap, &mut elevators);
     let below = Task {
         sizes: gaps.sizes,
         plane: gap,
@@ -80,7 +81,8 @@ pub fn plan<C: Chooser, F: Filler<C>>(
     if map.len() < sizes.gaps() * sizes.area() || bytes.len() < routers {
         return Err(Refusal::ShortBuffer);
     }
-    if !sizes.all_linked(map) {
+    let linked = sizes.all_linked(map);
+    if !linked {
         return Err(Refusal::GapUnlinked);
     }
     fill_gaps(Gaps { sizes, map }, filler, chooser, &mut bytes[..routers]);

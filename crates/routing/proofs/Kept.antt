@@ -1,5 +1,5 @@
 -- One turn of a loop that keeps what passes a test, up to n elements.
-use Rattle.std.proofs.Common.{◌≡◌, ℕ, ◌+◌, ◌<◌, ◌≤◌, min, Bool, true, false, cond, ◌&&◌, List, [], ◌∷◌, ◌++◌, length, get_or, take, filter, not, refl, sym, ap, ◌∙◌, append-nil, arith}
+use Rattle.std.proofs.Common.{◌≡◌, ℕ, ◌+◌, ◌<◌, ◌≤◌, min, Bool, true, false, cond, List, [], ◌∷◌, ◌++◌, length, get_or, take, filter, not, refl, sym, ap, ◌∙◌, append-nil, arith}
 use Rattle.std.proofs.lemmas.List.{length-append, length-take, take-append-le, take_all}
 use Rattle.std.proofs.lemmas.List.Elements.{filter_more}
 use Rattle.std.proofs.lemmas.List.Filters.{length-filter_both}
@@ -29,12 +29,3 @@ module _ {X : Type 0} (test : X → Bool) (n : ℕ) (xs : List X) (i : ℕ) (d :
 -- of few elements all that pass are kept
 pub all_kept : {X : Type 0} (test : X → Bool) (n : ℕ) (xs : List X) → length xs ≤ n → take n (filter test xs) ≡ filter test xs
 all_kept test n xs few = take_all n (filter test xs) (omega (arith, length-filter_both test (λ x. not (test x)) (λ _. refl) xs))
-
--- two tests in turn are both at once
-twice : {X : Type 0} (second : X → Bool) (x : X) (ys zs : List X) (b : Bool) → filter second ys ≡ zs → filter second (cond b (x ∷ ys) ys) ≡ cond (b && second x) (x ∷ zs) zs
-twice second x ys zs true rest = ap (λ l. cond (second x) (x ∷ l) l) rest
-twice second x ys zs false rest = rest
-
-pub kept_twice : {X : Type 0} (first second : X → Bool) (xs : List X) → filter second (filter first xs) ≡ filter (λ x. first x && second x) xs
-kept_twice first second [] = refl
-kept_twice first second (x ∷ xs) = twice second x (filter first xs) (filter (λ y. first y && second y) xs) (first x) (kept_twice first second xs)

@@ -20,6 +20,6 @@ pub use guiding::{Guide, Request};
 pub use optimistic::Optimistic;
 pub use pointing::Pointing;
 pub use register::ShiftRegister;
-pub use rooms::{MOST, Places, list_passing};
+pub use rooms::{MOST, Places, keep, list_passing};
 pub use safe::MdSafe;
 pub use ties::RandomOffline;

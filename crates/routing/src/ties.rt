@@ -23,13 +23,6 @@ pub struct RandomOffline {
     pub order: TurnOrder,
 }
 
-// Room for the lists of a router, lent to one router after the other.
-#[derive(Drop)]
-struct Rooms {
-    nearest: Places,
-    late: Places,
-}
-
 // The smallest distance to an elevator: a loop, the form asked for where elevators are gone through.
 fn least_distance(place: Place, elevators: &[Place]) -> u16
     requires { 0 < length elevators.now }
@@ -43,28 +36,29 @@ fn least_distance(place: Place, elevators: &[Place]) -> u16
 }
 
 impl RandomOffline {
-    // The candidates of a router, listed in the room lent: of its nearest elevators those that need directions of the
-    // last set alone, or all where none does.
-    fn candidates<'a>(self, task: Task, place: Place, rooms: &'a mut Rooms) -> &'a [Place]
+    // The candidates of a router, listed in the list lent: of its nearest elevators those that need directions of the
+    // last set alone, or all where none does. One list serves for both: a second would stand on the stack beside it.
+    fn candidates<'a>(self, task: Task, place: Place, list: &'a mut Places) -> &'a [Place]
         ensures list { result.now ≡ candidates self.order place task.entry.elevators.now }
         ensures some { 0 < length result.now }
     {
         let least = least_distance(place, task.elevators);
         list_passing(
             task.elevators,
-            |elevator| place.distance(*elevator) == least,
-            &mut rooms.nearest,
+            |elevator| {
+                place.distance(*elevator) == least
+                    && self.order.lowest(Directions::toward(place, *elevator)) >= LAST_SET
+            },
+            list,
         );
-        list_passing(
-            &rooms.nearest,
-            |elevator| self.order.lowest(Directions::toward(place, *elevator)) >= LAST_SET,
-            &mut rooms.late,
-        );
-        if rooms.late.is_empty() {
-            &rooms.nearest
-        } else {
-            &rooms.late
+        if list.is_empty() {
+            list_passing(
+                task.elevators,
+                |elevator| place.distance(*elevator) == least,
+                list,
+            );
         }
+        list
     }
 
     // The elevator that a router points at: the chooser is asked only where two or more candidates remain.
@@ -72,13 +66,13 @@ impl RandomOffline {
         self,
         task: Task,
         place: Place,
-        rooms: &mut Rooms,
+        list: &mut Places,
         chooser: &mut C,
     ) -> Place
         ensures settles { result ≡ target C.position C.after self.order task.entry.plane task.entry.way task.entry.elevators.now place chooser.old }
         ensures goes { chooser.new ≡ onward C.position C.after self.order task.entry.plane task.entry.way task.entry.elevators.now place chooser.old }
     {
-        let candidates = self.candidates(task, place, rooms);
+        let candidates = self.candidates(task, place, list);
         if candidates.len() < 2 {
             return candidates[0];
         }
@@ -97,13 +91,10 @@ impl RandomOffline {
         ensures writes { bytes.new ≡ put_halves task.entry.way bytes.old (tie_half C.position C.after self.order (task_of task.entry) chooser.old) }
         ensures goes { chooser.new ≡ tie_next C.position C.after self.order (task_of task.entry) chooser.old }
     {
-        let mut rooms = Rooms {
-            nearest: Places::new(),
-            late: Places::new(),
-        };
+        let mut list = Places::new();
         for (i, byte) in bytes.iter_mut().enumerate() {
             let place = task.sizes.place_at(i);
-            let elevator = self.settle(task, place, &mut rooms, chooser);
+            let elevator = self.settle(task, place, &mut list, chooser);
             *byte = task.way.with_half(*byte, pointing(place, elevator));
         }
     }

@@ -27,12 +27,25 @@ impl From<Answer> for Kind {
     }
 }
 
+// Whether an answer is of a kind. By both at once: to ask for its kind and compare took a sixth more time.
+fn is_of(kind: Kind, answer: Answer) -> bool
+    ensures { result ≡ of_kind kind answer }
+{
+    match (kind, answer) {
+        (Kind::Injected, Ok(Done::Injected)) => true,
+        (Kind::Moved, Ok(Done::Moved)) => true,
+        (Kind::Collected, Ok(Done::Collected(_))) => true,
+        (Kind::Refused, Err(_)) => true,
+        _ => false,
+    }
+}
+
 // How many answers are of a kind.
 pub fn count(kind: Kind, answers: &[Answer]) -> usize
     ensures { result ≡ count_by (of_kind kind) answers.now }
 {
     answers
         .iter()
-        .filter(|answer| Kind::from(**answer) == kind)
+        .filter(|answer| is_of(kind, **answer))
         .count()
 }

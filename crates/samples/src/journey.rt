@@ -1,4 +1,5 @@
 // One packet's journey: injected, moved five times, collected.
+use crate::failure::Failure;
 use channel_laws::{Answer, Call, Done, Record};
 use channels::run_script;
 use mesh::{Refusal, Router, Sizes, TurnOrder};
@@ -72,7 +73,7 @@ fn travel(map: &[u8], answers: &mut [Answer]) -> Result<(), Refusal> {
 }
 
 // Prints what each call of the journey answered.
-pub(crate) fn show_journey(rt: &HostRuntime, map: &[u8]) -> anyhow::Result<()> {
+pub(crate) fn show_journey(rt: &HostRuntime, map: &[u8]) -> Result<(), Failure> {
     let mut answers = [Ok(Done::Injected); 7];
     travel(map, &mut answers)?;
     for answer in answers {

@@ -2,10 +2,12 @@
 
 #![tactic(auto)]
 
+mod failure;
 mod journey;
 
 ghost use Rattle.samples.specs.Facts.{Samples};
 
+use crate::failure::Failure;
 use crate::journey::show_journey;
 use listing::list_plan;
 use mesh::{Place, Refusal, Sizes, TurnOrder, Way};
@@ -42,7 +44,7 @@ fn show<C: Chooser, F: Filler<C>>(
     name: &str,
     filler: &F,
     chooser: &mut C,
-) -> anyhow::Result<()> {
+) -> Result<(), Failure> {
     println!(rt; "{name}")?;
     rt.stdout()
         .write_all(listing(filler, chooser, &mut [0; 54])?)?;
@@ -50,7 +52,7 @@ fn show<C: Chooser, F: Filler<C>>(
 }
 
 // Asks a register twice at a list of three, and prints state and reply.
-fn show_register(rt: &HostRuntime) -> anyhow::Result<()> {
+fn show_register(rt: &HostRuntime) -> Result<(), Failure> {
     let place = Place { x: 0, y: 0 };
     let mut register = ShiftRegister::new(0xace1)?;
     for _ in 0..2 {
@@ -84,7 +86,7 @@ fn show_edges(rt: &HostRuntime) -> io::Result<()> {
 }
 
 // Prints what becomes of a stack of so many planes without any link.
-fn show_unlinked(rt: &HostRuntime, planes: u8) -> anyhow::Result<()> {
+fn show_unlinked(rt: &HostRuntime, planes: u8) -> Result<(), Failure> {
     let sizes = Sizes::new(3, 3, planes)?;
     let mut bytes = [0; 18];
     let answer = number(plan(sizes, &[0; 9], &Optimistic, &mut First, &mut bytes));
@@ -92,7 +94,7 @@ fn show_unlinked(rt: &HostRuntime, planes: u8) -> anyhow::Result<()> {
     Ok(())
 }
 
-fn show_orders(rt: &HostRuntime) -> anyhow::Result<()> {
+fn show_orders(rt: &HostRuntime) -> Result<(), Failure> {
     let xy = TurnOrder::new(1, 0, 1, 0)?;
     show(rt, "md-safe", &MdSafe { order: xy }, &mut First)?;
     show(
@@ -111,7 +113,7 @@ fn show_orders(rt: &HostRuntime) -> anyhow::Result<()> {
     show(rt, "optimistic", &Optimistic, &mut First)
 }
 
-fn main(rt: HostRuntime) -> anyhow::Result<()> {
+fn main(rt: HostRuntime) -> Result<(), Failure> {
     samples_hold();
     show_orders(&rt)?;
     show_register(&rt)?;

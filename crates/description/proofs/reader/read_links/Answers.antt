@@ -28,19 +28,19 @@ returns-in_err-or_fault-in-Pillar c =
 pub returns-then-not-all_linked : goal.returns-then-not-all_linked
 returns-then-not-all_linked c =
     let r = c.loop-record.invariant in
-    rw (c.refuse.ensures, r.0) (bare_gap r.1 (rw c.in-End.is at c.in_ok-record.ensures.1) (omega arith) (c.if-not-all_linked.ensures.linked (omega (arith, gaps_below c.args.description.sizes))))
+    rw (c.refuse.ensures, r.0) (bare_gap r.1 (rw c.in-End.is at c.in_ok-record.ensures.1) (omega arith) (c.if-not-all_linked.ensures.linked (omega (arith, gaps_below c.args.description.sizes, length-set {A = ℕ}))))
 
 pub returns-then-not-is_empty : goal.returns-then-not-is_empty
 returns-then-not-is_empty c =
     let r = c.loop-record.invariant in
     let h = c.in_ok-record.ensures in
-    rw (c.refuse-then-not-is_empty.ensures, h.0, r.0) (follows r.1 (rw c.in-End.is at h.1) (omega arith) (c.if-not-all_linked.ensures.linked (omega (arith, gaps_below c.args.description.sizes))) (eqb-false _ _ (sym c.if-not-is_empty.ensures)))
+    rw (c.refuse-then-not-is_empty.ensures, h.0, r.0) (follows r.1 (rw c.in-End.is at h.1) (omega arith) (c.if-not-all_linked.ensures.linked (omega (arith, gaps_below c.args.description.sizes, length-set {A = ℕ}))) (eqb-false _ _ (sym c.if-not-is_empty.ensures)))
 
 pub returns-in-End : goal.returns-in-End
 returns-in-End c =
     let r = c.loop-record.invariant in
     let h = c.in_ok-record.ensures in
-    complete r.1 (rw c.in-End.is at h.1) (omega arith) (c.if-not-all_linked.ensures.linked (omega (arith, gaps_below c.args.description.sizes))) (nil_from_length _ (eqb-true _ _ (sym c.if-not-is_empty.ensures)))
+    complete r.1 (rw c.in-End.is at h.1) (omega arith) (c.if-not-all_linked.ensures.linked (omega (arith, gaps_below c.args.description.sizes, length-set {A = ℕ}))) (nil_from_length _ (eqb-true _ _ (sym c.if-not-is_empty.ensures)))
 
 pub returns-in_default : goal.returns-in_default
 returns-in_default c =
