@@ -49,11 +49,7 @@ impl<C: Chooser> Filler<C> for InnerElevators {
             &mut inner,
         );
         let none_inner = inner.is_empty();
-        let elevators = if none_inner {
-            task.elevators
-        } else {
-            &inner
-        };
+        let elevators = if none_inner { task.elevators } else { &inner };
         let filler = RandomOffline { order: self.order };
         let offer = Task {
             sizes: task.sizes,
